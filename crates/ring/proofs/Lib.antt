@@ -1,0 +1,4 @@
+pub mod CongLaw
+pub mod RangeLaw
+pub mod Theorems
+pub mod WordLaw

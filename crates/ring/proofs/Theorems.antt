@@ -1,0 +1,83 @@
+-- Ring facts, each for all widths together (specs/Theorems.antt).
+use Prim.Native.Nat.{ℕ, _+_, _*_, _-_, _/_, _%_, _<_, _≤_, _^_}
+use mathlib.Core.Path.{_≡_, refl, sym, _∙_, ap}
+use mathlib.Core.Logic.{⊎-elim}
+use native.Mathlib.Nat.{div-add-mod', mod-lt, div-lt-iff-lt-mul, mod-eq-of-lt, eq-or-lt-of-le}
+use native.Mathlib.Omega.{arith}
+use lib.Pow.{pow-add, pow-pos, pow-mono}
+use Rattle.ring.specs.Modular.{Cong}
+use Rattle.ring.specs.Rings.{modulus, quarter, rotated}
+use Rattle.ring.specs.Theorems.{Folds, FourTimes, Quarter, Product}
+use Rattle.ring.proofs.CongLaw.{cong-of-eq, cong-trans, cong-sym, cong-multiple, cong-below}
+
+-- 2^e is one more than the modulus
+pub modulus-suc : (e : ℕ) → modulus e + 1 ≡ 2 ^ e
+unfolding modulus
+modulus-suc e = omega (arith, pow-pos e)
+
+-- 2^e is four times 2^(e-2)
+pub four-quarters : (e : ℕ) → 2 ≤ e → 4 * 2 ^ (e - 2) ≡ 2 ^ e
+four-quarters e h =
+    let split : (e - 2) + 2 ≡ e = omega arith in
+    let whole : 2 ^ e ≡ 2 ^ (e - 2) * 2 ^ 2 = ap (λ (n : ℕ). 2 ^ n) (sym split) ∙ pow-add 2 (e - 2) 2 in
+    omega arith
+
+pub folds : Folds
+folds e high low =
+    let grown : high * 2 ^ e ≡ high * (modulus e + 1) = ap (λ (n : ℕ). high * n) (sym (modulus-suc e)) in
+    let e′ : high * 2 ^ e + low ≡ high + low + modulus e * high = omega arith in
+    cong-trans (cong-of-eq e′) (cong-multiple (modulus e) (high + low) high)
+
+-- a turned word is below the modulus unless all its bits are ones: Q is 2^(e-2), high the two highest bits
+turn-below : (Q high low : ℕ) → low < Q → high < 4 → high * Q + low + 1 < 4 * Q → low * 4 + high + 1 < 4 * Q
+turn-below Q high low small top below =
+    let top′ : high ≤ 3 = omega arith in
+    ⊎-elim (λ (e : high ≡ 3). omega (arith, ap (λ (n : ℕ). n * Q) e)) (λ (l : high < 3). omega arith) (eq-or-lt-of-le top′)
+
+pub four-times : FourTimes
+unfolding rotated
+four-times e a h below =
+    let Q = 2 ^ (e - 2) in
+    let whole : a / Q * Q + a % Q ≡ a = div-add-mod' a Q in
+    let fours : 4 * Q ≡ 2 ^ e = four-quarters e h in
+    let top : modulus e + 1 ≡ 2 ^ e = modulus-suc e in
+    let small : a % Q < Q = mod-lt a (pow-pos (e - 2)) in
+    let high : a / Q < 4 = div-lt-iff-lt-mul (pow-pos (e - 2)) .1 (omega arith) in
+    let fits : a % Q * 4 + a / Q < modulus e = omega (arith, turn-below Q (a / Q) (a % Q) small high (omega arith)) in
+    let moved : a / Q * 2 ^ e + a % Q * 4 ≡ 4 * a = omega (arith, ap (λ (n : ℕ). a / Q * n) fours) in
+    let turned : a % Q * 4 + a / Q ≡ a / Q + a % Q * 4 = omega arith in
+    cong-below fits
+    (cong-trans (cong-of-eq turned) (cong-trans (cong-sym (folds e (a / Q) (a % Q * 4))) (cong-of-eq moved)))
+
+pub quarter-inverts : Quarter
+unfolding quarter
+quarter-inverts e h =
+    let fours : 4 * 2 ^ (e - 2) ≡ 2 ^ e = four-quarters e h in
+    let top : modulus e + 1 ≡ 2 ^ e = modulus-suc e in
+    let large : 2 ^ 2 ≤ 2 ^ e = pow-mono h in
+    let e₁ : 4 * 2 ^ (e - 2) ≡ 1 + modulus e * 1 = omega arith in
+    let one : 1 < modulus e = omega arith in
+    (cong-trans (cong-of-eq e₁) (cong-multiple (modulus e) 1 1)) .same ∙ mod-eq-of-lt one
+
+-- the columns of a product of two-digit numbers at base 2L, where the middle one is cut at L
+columns : (L a₁ a₀ b₁ b₀ m₁ m₀ : ℕ)
+    → a₁ * b₀ + a₀ * b₁ ≡ m₁ * L + m₀
+    → (2 * (a₁ * b₁) + m₁) * (2 * (L * L)) + (m₀ * (2 * L) + a₀ * b₀) ≡ (a₁ * (2 * L) + a₀) * (b₁ * (2 * L) + b₀)
+columns L a₁ a₀ b₁ b₀ m₁ m₀ middle = omega (arith, ap (λ (n : ℕ). n * (2 * L)) middle)
+
+-- 2^(k+1) and 2^(2k+1) from 2^k
+pub next-power : (k : ℕ) → 2 ^ (k + 1) ≡ 2 * 2 ^ k
+next-power k = omega (arith, pow-add 2 k 1)
+
+pub odd-power : (k : ℕ) → 2 ^ (2 * k + 1) ≡ 2 * (2 ^ k * 2 ^ k)
+odd-power k =
+    let twice : 2 * k + 1 ≡ (k + k) + 1 = omega arith in
+    ap (λ (n : ℕ). 2 ^ n) twice ∙ omega (arith, pow-add 2 (k + k) 1, pow-add 2 k k)
+
+pub product : Product
+product k a₁ a₀ b₁ b₀ m₁ m₀ middle =
+    let cols : (2 * (a₁ * b₁) + m₁) * 2 ^ (2 * k + 1) + (m₀ * 2 ^ (k + 1) + a₀ * b₀) ≡ (a₁ * 2 ^ (k + 1) + a₀) * (b₁ * 2 ^ (k + 1) + b₀)
+    = rw (next-power k, odd-power k) (columns (2 ^ k) a₁ a₀ b₁ b₀ m₁ m₀ middle) in
+    let regroup : 2 * (a₁ * b₁) + m₁ + m₀ * 2 ^ (k + 1) + a₀ * b₀ ≡ 2 * (a₁ * b₁) + m₁ + (m₀ * 2 ^ (k + 1) + a₀ * b₀) = omega arith in
+    cong-trans (cong-of-eq regroup)
+    (cong-trans (cong-sym (folds (2 * k + 1) (2 * (a₁ * b₁) + m₁) (m₀ * 2 ^ (k + 1) + a₀ * b₀))) (cong-of-eq cols))

@@ -1,0 +1,23 @@
+-- Ring facts, each for all widths together. Proofs: proofs/Theorems.antt.
+use Prim.Native.Nat.{ℕ, _+_, _*_, _%_, _≤_, _<_, _^_}
+use mathlib.Core.Path.{_≡_}
+use Rattle.ring.specs.Modular.{Cong}
+use Rattle.ring.specs.Rings.{modulus, quarter, rotated}
+
+-- a word above bit e folds onto the low bits: 2^e is 1 modulo p
+abbrev pub Folds : Type 0
+Folds = (e high low : ℕ) → Cong (modulus e) (high * 2 ^ e + low) (high + low)
+
+-- four times a number below p is the turn of its e bits left by two
+abbrev pub FourTimes : Type 0
+FourTimes = (e a : ℕ) → 2 ≤ e → a < modulus e → rotated e a ≡ 4 * a % modulus e
+
+-- the inverse of four
+abbrev pub Quarter : Type 0
+Quarter = (e : ℕ) → 2 ≤ e → 4 * quarter e % modulus e ≡ 1
+
+-- the product in words of half the width, for every odd width: factors cut above bit k, the middle column at bit k
+abbrev pub Product : Type 0
+Product = (k a₁ a₀ b₁ b₀ m₁ m₀ : ℕ)
+    → a₁ * b₀ + a₀ * b₁ ≡ m₁ * 2 ^ k + m₀
+    → Cong (modulus (2 * k + 1)) (2 * (a₁ * b₁) + m₁ + m₀ * 2 ^ (k + 1) + a₀ * b₀) ((a₁ * 2 ^ (k + 1) + a₀) * (b₁ * 2 ^ (k + 1) + b₀))

@@ -1,0 +1,8 @@
+// The rings of the set: arithmetic modulo 2^e - 1 for the widths 13, 31 and 61, and single bits of words.
+mod arith;
+mod bits;
+mod rings;
+
+pub use bits::bit;
+pub use rings::OfWidth;
+pub use rings::Ring;
