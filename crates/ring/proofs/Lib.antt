@@ -1,3 +1,4 @@
+pub mod BitLaw
 pub mod CongLaw
 pub mod RangeLaw
 pub mod Theorems

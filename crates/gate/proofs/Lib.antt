@@ -1,0 +1,3 @@
+pub mod Figures
+pub mod Theorems
+pub mod WordLaw

@@ -1,0 +1,4 @@
+pub mod Figures
+pub mod Gates
+pub mod Places
+pub mod Theorems

@@ -1,0 +1,64 @@
+// The gate: each party's word goes to the head of its channel, and the words are the new sub-shares.
+ghost use mathlib.Core.Path.{_≡_};
+ghost use Rattle.ring.specs.Rings.{modulusOf};
+ghost use Rattle.gate.specs.Gates.{gated};
+ghost use Rattle.gate.specs.Places.{InRange, Room, Sent, parts, sharing};
+use crate::sharing::Sharing;
+use crate::words::bit_words;
+use crate::words::ring_words;
+use ring::Ring;
+
+// One word a channel, to its head.
+pub fn send(z: Sharing, c0: &mut [u64], c1: &mut [u64], c2: &mut [u64])
+    requires { ⌜ Room (now c0) (now c1) (now c2) ⌝ }
+    ensures { λ _. ⌜ Sent z (now (c0 .entry)) (now (c1 .entry)) (now (c2 .entry)) (now (c0 .exit)) (now (c1 .exit)) (now (c2 .exit)) ⌝ }
+{
+    c0[0] = z.s0;
+    c1[0] = z.s1;
+    c2[0] = z.s2;
+}
+
+// One gate in a ring.
+pub fn ring_gate(
+    r: Ring,
+    x: Sharing,
+    y: Sharing,
+    t: Sharing,
+    c0: &mut [u64],
+    c1: &mut [u64],
+    c2: &mut [u64],
+) -> Sharing
+    requires left { ⌜ InRange (modulusOf r) x ⌝ }
+    requires right { ⌜ InRange (modulusOf r) y ⌝ }
+    requires items { ⌜ InRange (modulusOf r) t ⌝ }
+    requires room { ⌜ Room (now c0) (now c1) (now c2) ⌝ }
+    ensures is { λ z. ⌜ z ≡ sharing (gated (modulusOf r) (parts x) (parts y) (parts t)) ⌝ }
+    ensures below { λ z. ⌜ InRange (modulusOf r) z ⌝ }
+    ensures sent { λ z. ⌜ Sent z (now (c0 .entry)) (now (c1 .entry)) (now (c2 .entry)) (now (c0 .exit)) (now (c1 .exit)) (now (c2 .exit)) ⌝ }
+{
+    let z = ring_words(r, x, y, t);
+    send(z, c0, c1, c2);
+    z
+}
+
+// One gate on bits, which are numbers modulo 2.
+pub fn bit_gate(
+    x: Sharing,
+    y: Sharing,
+    t: Sharing,
+    c0: &mut [u64],
+    c1: &mut [u64],
+    c2: &mut [u64],
+) -> Sharing
+    requires left { ⌜ InRange 2 x ⌝ }
+    requires right { ⌜ InRange 2 y ⌝ }
+    requires items { ⌜ InRange 2 t ⌝ }
+    requires room { ⌜ Room (now c0) (now c1) (now c2) ⌝ }
+    ensures is { λ z. ⌜ z ≡ sharing (gated 2 (parts x) (parts y) (parts t)) ⌝ }
+    ensures below { λ z. ⌜ InRange 2 z ⌝ }
+    ensures sent { λ z. ⌜ Sent z (now (c0 .entry)) (now (c1 .entry)) (now (c2 .entry)) (now (c0 .exit)) (now (c1 .exit)) (now (c2 .exit)) ⌝ }
+{
+    let z = bit_words(x, y, t);
+    send(z, c0, c1, c2);
+    z
+}
