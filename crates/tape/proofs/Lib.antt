@@ -1,0 +1,4 @@
+pub mod FillLaw
+pub mod KindLaw
+pub mod CourseLaw
+pub mod Theorems

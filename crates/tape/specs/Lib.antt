@@ -1,0 +1,3 @@
+pub mod Tapes
+pub mod Draws
+pub mod Theorems
