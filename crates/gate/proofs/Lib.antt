@@ -1,3 +1,3 @@
-pub mod Figures
+pub mod PlaceLaw
 pub mod Theorems
 pub mod WordLaw

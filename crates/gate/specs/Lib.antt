@@ -1,4 +1,3 @@
-pub mod Figures
 pub mod Gates
 pub mod Places
 pub mod Theorems

@@ -1,0 +1,59 @@
+-- 01, "Figures worked by hand": the rows marked (*), of the definitions. Proof: proofs/Figures.antt.
+use Prim.Native.Nat.{ℕ}
+use mathlib.Core.List.{List, [], _∷_, map}
+use mathlib.Core.Path.{_≡_}
+use Rattle.ring.specs.Rings.{modulus}
+use Rattle.gate.specs.Gates.{gated}
+use Rattle.gate.specs.Places.{Place, p0, p1, p2, tabled, three, total}
+use Rattle.circuit.specs.Bits.{exclusive}
+use Rattle.circuit.specs.Circuits.{Circuit, result}
+use Rattle.circuit.specs.Orders.{conversion, decomposition}
+
+-- a row: what the definitions give, and what the paper says
+pub record Figure : Type 0 where
+  pub given : List ℕ
+  pub wanted : List ℕ
+
+abbrev listed : (Place → ℕ) → List ℕ
+listed x = x p0 ∷ x p1 ∷ x p2 ∷ []
+
+-- some items in range of every modulus: no value depends on them
+abbrev tapes : Place → List ℕ
+tapes = three (1 ∷ 0 ∷ 1 ∷ 1 ∷ 0 ∷ []) (0 ∷ 1 ∷ 1 ∷ 0 ∷ 1 ∷ []) (1 ∷ 1 ∷ 0 ∷ 0 ∷ 1 ∷ [])
+
+-- what sub-shares a, b, c leave
+abbrev run : Circuit → ℕ → ℕ → ℕ → Place → ℕ
+run C a b c = result C (three a b c) (three 0 0 0) tapes
+
+-- "decomposes at l = 11 to", in ring 13
+abbrev decomposed : ℕ → ℕ → ℕ → List ℕ
+decomposed a b c = exclusive (run (decomposition 13 11) a b c) ∷ []
+
+-- "to ring", of ring 13
+abbrev converted : ℕ → ℕ → ℕ → ℕ → List ℕ
+converted f a b c = total (modulus f) (run (conversion 13 f) a b c) ∷ []
+
+abbrev row : List ℕ → List ℕ → Figure
+row given wanted = record { given = given; wanted = wanted }
+
+unfoldable pub figures : List Figure
+figures =
+    row (decomposed 1 2 2) (5 ∷ [])
+    ∷ row (decomposed 8000 100 96) (5 ∷ [])
+    ∷ row (decomposed 8000 8000 387) (5 ∷ [])
+    ∷ row (decomposed 8190 1 0) (0 ∷ [])
+    ∷ row (decomposed 2047 0 0) (2047 ∷ [])
+    ∷ row (decomposed 2048 0 0) (1 ∷ [])
+    ∷ row (decomposed 2047 1 0) (0 ∷ [])
+    ∷ row (converted 31 8000 100 96) (5 ∷ [])
+    ∷ row (converted 31 2048 0 0) (2147477504 ∷ [])
+    ∷ row (converted 13 2048 0 0) (2048 ∷ [])
+    -- products of 1,2,2 and 3,0,0 with items 10,20,30
+    ∷ row (listed (gated (modulus 13) (three 1 2 2) (three 3 0 0) (three 10 20 30))) (8190 ∷ 8181 ∷ 26 ∷ [])
+    -- bits 1,0,1 and 1,1,0 with items 0,1,1
+    ∷ row (listed (gated 2 (three 1 0 1) (three 1 1 0) (three 0 1 1))) (1 ∷ 1 ∷ 0 ∷ [])
+    ∷ []
+
+-- every row holds
+abbrev pub FiguresHold : Type 0
+FiguresHold = map (λ (f : Figure). f .given) figures ≡ map (λ (f : Figure). f .wanted) figures

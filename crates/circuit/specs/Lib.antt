@@ -1,0 +1,7 @@
+pub mod Bits
+pub mod Circuits
+pub mod Compose
+pub mod Decompose
+pub mod Figures
+pub mod Lent
+pub mod Orders
