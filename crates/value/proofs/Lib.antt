@@ -1,0 +1,13 @@
+pub mod ModulusLaw
+pub mod SumLaw
+pub mod BitsLaw
+pub mod AdderLaw
+pub mod GateLaw
+pub mod DecomposeLaw
+pub mod ComposeLaw
+pub mod ConvertLaw
+pub mod ShiftLaw
+pub mod SmallLaw
+pub mod Counts
+pub mod Ranges
+pub mod Values
