@@ -4,9 +4,9 @@ use mathlib.Core.Path.{_≡_, sym, _∙_}
 use native.Mathlib.Nat.{mod-lt, zero-mod}
 use native.Mathlib.Omega.{arith}
 use Rattle.ring.specs.Modular.{Cong, diff}
-use Rattle.ring.proofs.CongLaw.{cong-add, cong-below, cong-cancel, cong-mod, cong-mul, cong-of-eq, cong-refl, cong-small, cong-sym, cong-trans, diff-add, diff-lt, diff-only}
+use Rattle.ring.proofs.CongLaw.{cong-add, cong-below, cong-cancel, cong-mod, cong-mul, cong-of-eq, cong-refl, cong-sym, cong-trans, diff-add, diff-lt, diff-only}
 use Rattle.gate.specs.Gates.{crossed, gated, item, mask, unmask, word}
-use Rattle.gate.specs.Places.{Below, Pair, Place, held, p0, p1, p2, pair, total}
+use Rattle.gate.specs.Places.{Pair, Place, held, p0, p1, p2, pair, total}
 use Rattle.gate.specs.Theorems.{ItemOfWord, ItemsFit, Masks, MasksCancel, Multiplies, Unmasks, WordOfItem, WordsFit}
 
 masks-cong : (m : ℕ) → 0 < m → (t : Place → ℕ) → Cong m (mask m (held t p0) + mask m (held t p1) + mask m (held t p2)) 0

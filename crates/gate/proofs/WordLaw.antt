@@ -7,7 +7,7 @@ use Rattle.ring.specs.Modular.{Cong, diff}
 use Rattle.ring.proofs.BitLaw.{and-bit, xor-bit}
 use Rattle.ring.proofs.CongLaw.{cong-add, cong-mod, cong-mul, cong-of-eq, cong-refl, cong-trans}
 use Rattle.gate.specs.Gates.{crossed, gated, mask, word}
-use Rattle.gate.specs.Places.{PairBelow, Place, held, p0, p1, p2, pair, parts, sharing}
+use Rattle.gate.specs.Places.{InRange, PairBelow, held, p0, p1, p2, pair, parts, sharing}
 use Rattle.gate.specs.declared.sharing.Sharing.{Sharing}
 
 -- in a ring: two products, the first with the sum of y's pair
@@ -75,3 +75,12 @@ pub words-are : (m : ℕ) (x y t : Sharing) {z₀ z₁ z₂ : ℕ}
     → _≡_ {A = Sharing} (record { s0 = z₀; s1 = z₁; s2 = z₂ }) (sharing (gated m (parts x) (parts y) (parts t)))
 unfolding gated
 words-are m x y t e₀ e₁ e₂ = rw (e₀, e₁, e₂)
+
+-- and are in range
+pub words-hold : (m : ℕ) (x y t : Sharing) {z₀ z₁ z₂ : ℕ}
+    → (z₀ ≡ word m (held (parts x) p0) (held (parts y) p0) (held (parts t) p0)) × (z₀ < m)
+    → (z₁ ≡ word m (held (parts x) p1) (held (parts y) p1) (held (parts t) p1)) × (z₁ < m)
+    → (z₂ ≡ word m (held (parts x) p2) (held (parts y) p2) (held (parts t) p2)) × (z₂ < m)
+    → (_≡_ {A = Sharing} (record { s0 = z₀; s1 = z₁; s2 = z₂ }) (sharing (gated m (parts x) (parts y) (parts t))))
+    × InRange m (record { s0 = z₀; s1 = z₁; s2 = z₂ })
+words-hold m x y t h₀ h₁ h₂ = (words-are m x y t (h₀ .0) (h₁ .0) (h₂ .0), record { zero = h₀ .1; one = h₁ .1; two = h₂ .1 })

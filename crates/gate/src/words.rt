@@ -1,23 +1,28 @@
 // The words of a gate, each from what its party holds and nothing else.
 ghost use mathlib.Core.Path.{_≡_};
-ghost use Prim.Native.Nat.{_<_};
-ghost use Rattle.ring.specs.Rings.{modulusOf};
+ghost use Prim.Native.Nat.{_+_, _*_, _<_, _≤_};
+ghost use Rattle.ring.specs.Rings.{modulus, modulusOf};
 ghost use Rattle.gate.specs.Gates.{gated, word};
 ghost use Rattle.gate.specs.Places.{InRange, PairBelow, pair, parts, sharing};
 use crate::sharing::Sharing;
 use ring::Ring;
+use ring::add_mod;
+use ring::mul_mod;
+use ring::sub_mod;
 
-// z_i in a ring, from the sub-shares i and i + 1 of x, of y and of the items.
-fn ring_word(r: Ring, x: u64, xf: u64, y: u64, yf: u64, t: u64, tf: u64) -> u64
-    requires left { ⌜ PairBelow (modulusOf r) (pair x xf) ⌝ }
-    requires right { ⌜ PairBelow (modulusOf r) (pair y yf) ⌝ }
-    requires items { ⌜ PairBelow (modulusOf r) (pair t tf) ⌝ }
-    ensures is { λ z. ⌜ z ≡ word (modulusOf r) (pair x xf) (pair y yf) (pair t tf) ⌝ }
-    ensures below { λ z. ⌜ z < modulusOf r ⌝ }
+// z_i modulo p = 2^(2k+1) - 1, from the sub-shares i and i + 1 of x, of y and of the items.
+fn ring_word(k: u64, p: u64, x: u64, xf: u64, y: u64, yf: u64, t: u64, tf: u64) -> u64
+    requires modulus { ⌜ p ≡ modulus (2 * k + 1) ⌝ }
+    requires width { ⌜ (1 ≤ k) × (k ≤ 30) ⌝ }
+    requires left { ⌜ PairBelow p (pair x xf) ⌝ }
+    requires right { ⌜ PairBelow p (pair y yf) ⌝ }
+    requires items { ⌜ PairBelow p (pair t tf) ⌝ }
+    ensures is { λ z. ⌜ z ≡ word p (pair x xf) (pair y yf) (pair t tf) ⌝ }
+    ensures below { λ z. ⌜ z < p ⌝ }
 {
-    let both = r.mul(x, r.add(y, yf));
-    let crossed = r.add(both, r.mul(xf, y));
-    r.add(crossed, r.sub(t, tf))
+    let both = mul_mod(k, p, x, add_mod(p, y, yf));
+    let crossed = add_mod(p, both, mul_mod(k, p, xf, y));
+    add_mod(p, crossed, sub_mod(p, t, tf))
 }
 
 // z_i of bits, from the same.
@@ -39,13 +44,12 @@ pub fn ring_words(r: Ring, x: Sharing, y: Sharing, t: Sharing) -> Sharing
     ensures is { λ z. ⌜ z ≡ sharing (gated (modulusOf r) (parts x) (parts y) (parts t)) ⌝ }
     ensures below { λ z. ⌜ InRange (modulusOf r) z ⌝ }
 {
-    let z0 = ring_word(r, x.s0, x.s1, y.s0, y.s1, t.s0, t.s1);
-    let z1 = ring_word(r, x.s1, x.s2, y.s1, y.s2, t.s1, t.s2);
-    let z2 = ring_word(r, x.s2, x.s0, y.s2, y.s0, t.s2, t.s0);
+    let k = r.width() / 2;
+    let p = r.modulus();
     Sharing {
-        s0: z0,
-        s1: z1,
-        s2: z2,
+        s0: ring_word(k, p, x.s0, x.s1, y.s0, y.s1, t.s0, t.s1),
+        s1: ring_word(k, p, x.s1, x.s2, y.s1, y.s2, t.s1, t.s2),
+        s2: ring_word(k, p, x.s2, x.s0, y.s2, y.s0, t.s2, t.s0),
     }
 }
 
@@ -57,12 +61,9 @@ pub fn bit_words(x: Sharing, y: Sharing, t: Sharing) -> Sharing
     ensures is { λ z. ⌜ z ≡ sharing (gated 2 (parts x) (parts y) (parts t)) ⌝ }
     ensures below { λ z. ⌜ InRange 2 z ⌝ }
 {
-    let z0 = bit_word(x.s0, x.s1, y.s0, y.s1, t.s0, t.s1);
-    let z1 = bit_word(x.s1, x.s2, y.s1, y.s2, t.s1, t.s2);
-    let z2 = bit_word(x.s2, x.s0, y.s2, y.s0, t.s2, t.s0);
     Sharing {
-        s0: z0,
-        s1: z1,
-        s2: z2,
+        s0: bit_word(x.s0, x.s1, y.s0, y.s1, t.s0, t.s1),
+        s1: bit_word(x.s1, x.s2, y.s1, y.s2, t.s1, t.s2),
+        s2: bit_word(x.s2, x.s0, y.s2, y.s0, t.s2, t.s0),
     }
 }

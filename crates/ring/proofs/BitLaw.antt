@@ -1,7 +1,7 @@
 -- Single bits are numbers modulo 2: `^` adds them and `&` multiplies them.
 use Prim.Native.Nat.{ℕ, _+_, _*_, _%_, _<_}
 use mathlib.Core.Logic.{⊎-elim}
-use mathlib.Core.Path.{_≡_, _∙_, ap}
+use mathlib.Core.Path.{_≡_, _∙_}
 use native.Mathlib.Nat.{eq-zero-or-pos, mod-eq-of-lt, zero-mul}
 use native.Mathlib.Omega.{arith}
 use lib.Bits.{and-comm, and-mask, and-zero-l, bitAnd, bitXor, xor-add-and, xor-lt}

@@ -1,7 +1,7 @@
 -- Laws of congruence modulo m, and of the difference, for every m: the one place for all crates.
-use Prim.Native.Nat.{ℕ, zero, suc, _+_, _*_, _-_, _/_, _%_, _<_, _≤_}
+use Prim.Native.Nat.{ℕ, _+_, _*_, _-_, _/_, _%_, _<_}
 use mathlib.Core.Path.{_≡_, refl, sym, _∙_, ap}
-use native.Mathlib.Nat.{add-mod, mod-mod, mod-add-mod, add-mod-mod, mod-eq-of-lt, mod-lt, mod-le, add-mul-mod-self-left, div-add-mod, add-mod-right}
+use native.Mathlib.Nat.{add-mod, mod-mod, mod-eq-of-lt, mod-lt, add-mul-mod-self-left, div-add-mod}
 use native.Mathlib.Omega.{arith}
 use Rattle.ring.specs.Modular.{Cong, diff}
 

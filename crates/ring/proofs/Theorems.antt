@@ -1,11 +1,10 @@
 -- Ring facts, each for all widths together (specs/Theorems.antt).
 use Prim.Native.Nat.{ℕ, _+_, _*_, _-_, _/_, _%_, _<_, _≤_, _^_}
-use mathlib.Core.Path.{_≡_, refl, sym, _∙_, ap}
+use mathlib.Core.Path.{_≡_, sym, _∙_, ap}
 use mathlib.Core.Logic.{⊎-elim}
 use native.Mathlib.Nat.{div-add-mod', mod-lt, div-lt-iff-lt-mul, mod-eq-of-lt, eq-or-lt-of-le}
 use native.Mathlib.Omega.{arith}
 use lib.Pow.{pow-add, pow-pos, pow-mono}
-use Rattle.ring.specs.Modular.{Cong}
 use Rattle.ring.specs.Rings.{modulus, quarter, rotated}
 use Rattle.ring.specs.Theorems.{Folds, FourTimes, Quarter, Product}
 use Rattle.ring.proofs.CongLaw.{cong-of-eq, cong-trans, cong-sym, cong-multiple, cong-below}

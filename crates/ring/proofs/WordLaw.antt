@@ -1,6 +1,6 @@
 -- How words are cut by shifts and masks, at every width: what the code of the arithmetic computes.
 use Prim.Native.Nat.{ℕ, _+_, _*_, _-_, _/_, _%_, _<_, _≤_, _^_}
-use mathlib.Core.Path.{_≡_, sym, _∙_, ap}
+use mathlib.Core.Path.{_≡_, _∙_, ap}
 use native.Mathlib.Nat.{div-add-mod', mod-lt, div-lt-iff-lt-mul, div-le-of-le-mul, mul-le-mul, le-of-lt, le-of-eq}
 use native.Mathlib.Omega.{arith}
 use lib.Bits.{bitAnd, and-mask}

@@ -1,6 +1,5 @@
 // The ring type: widths, moduli and inverses of four.
 ghost use mathlib.Core.Path.{_≡_};
-ghost use Prim.Native.Nat.{_/_};
 ghost use Rattle.ring.specs.Rings.{modulusOf, quarterOf, ringOf, widthOf};
 
 // A ring of 01, "Rings, parts and units".

@@ -1,0 +1,11 @@
+pub mod AroundLaw
+pub mod DealLaw
+pub mod GoLaw
+pub mod InverseLaw
+pub mod LeftLaw
+pub mod LevelLaw
+pub mod ModuliLaw
+pub mod OrderLaw
+pub mod PrefixLaw
+pub mod SizeLaw
+pub mod WorkLaw

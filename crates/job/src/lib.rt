@@ -1,0 +1,1 @@
+// Jobs as lists of orders, and demand 3 about whole jobs. Definitions and proofs only.

@@ -1,0 +1,59 @@
+-- What soundness says of a register's sub-shares.
+use Prim.Native.Nat.{ℕ, _+_, _%_, _<_, _≤_, _^_}
+use mathlib.Core.Bool.{Bool, false, true, _&&_}
+use mathlib.Core.Path.{_≡_, refl}
+use native.Mathlib.Nat.{mod-add-mod}
+use borrow.Author.Tests.{leb-true, ltb-true}
+use lib.Dec.{leb, ltb}
+use Rattle.ring.specs.Rings.{modulusOf}
+use Rattle.ring.specs.declared.rings.Ring.{Ring}
+use Rattle.gate.specs.Places.{InRange, total}
+use Rattle.gate.specs.declared.sharing.Sharing.{Sharing}
+use Rattle.machine.specs.Registers.{sharesBelow, soundRegister}
+use Rattle.machine.specs.Step.{valueOf}
+use Rattle.machine.specs.declared.registers.Register.{Register}
+use Rattle.machine.specs.declared.registers.Register.the-variants.{Bits, Number}
+
+pub left-true : (a b : Bool) → a && b ≡ true → a ≡ true
+left-true true b h = refl
+left-true false b h = h
+
+pub right-true : (a b : Bool) → a && b ≡ true → b ≡ true
+right-true true b h = h
+right-true false b h = cc
+
+pub shares-below : (m : ℕ) (x : Sharing) → sharesBelow m x ≡ true → InRange m x
+shares-below m x h =
+    let rest = right-true (ltb (x .s0) m) (ltb (x .s1) m && ltb (x .s2) m) h in
+    record {
+      zero = ltb-true (x .s0) m (left-true (ltb (x .s0) m) (ltb (x .s1) m && ltb (x .s2) m) h);
+      one = ltb-true (x .s1) m (left-true (ltb (x .s1) m) (ltb (x .s2) m) rest);
+      two = ltb-true (x .s2) m (right-true (ltb (x .s1) m) (ltb (x .s2) m) rest);
+    }
+
+module _ (a : Register) (sound : soundRegister a ≡ true) where
+  pub number-below : (r : Ring) (x : Sharing) → a ≡ Number r x → InRange (modulusOf r) x
+  unfolding soundRegister
+  number-below r x e = shares-below (modulusOf r) x (rw e at sound)
+
+  pub bits-below : (l : ℕ) (x : Sharing) → a ≡ Bits l x → (1 ≤ l) × (l ≤ 59) × InRange (2 ^ l) x
+  unfolding soundRegister
+  bits-below l x e =
+      let h = rw e at sound in
+      let rest = right-true (leb 1 l) (leb l 59 && sharesBelow (2 ^ l) x) h in (
+        leb-true 1 l (left-true (leb 1 l) (leb l 59 && sharesBelow (2 ^ l) x) h),
+        leb-true l 59 (left-true (leb l 59) (sharesBelow (2 ^ l) x) rest),
+        shares-below (2 ^ l) x (right-true (leb l 59) (sharesBelow (2 ^ l) x) rest),
+      )
+
+-- the total of a number, from two sums modulo p
+pub number-value : {a : Register} (r : Ring) (x : Sharing) {half v : ℕ} → a ≡ Number r x
+    → half ≡ (x .s0 + x .s1) % modulusOf r
+    → v ≡ (half + x .s2) % modulusOf r
+    → v ≡ valueOf a
+unfolding total
+number-value r x e h k = rw (e, k, h) (mod-add-mod (x .s0 + x .s1) (modulusOf r) (x .s2))
+
+-- no test is both
+pub never-both : {b : Bool} {v w : ℕ} → b ≡ false → b ≡ true → v ≡ w
+never-both h k = cc

@@ -1,0 +1,2 @@
+pub mod KindLaw
+pub mod SlotLaw

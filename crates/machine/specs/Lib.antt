@@ -1,0 +1,4 @@
+pub mod Checks
+pub mod Registers
+pub mod Step
+pub mod Work

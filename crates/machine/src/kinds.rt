@@ -1,0 +1,127 @@
+// What is public of a register, its sub-shares and its value.
+ghost use mathlib.Core.Bool.{true};
+ghost use mathlib.Core.Path.{_≡_};
+ghost use Rattle.ring.specs.Rings.{modulus, widthOf};
+ghost use Rattle.machine.specs.Checks.{isBits, isEmpty, isNumber};
+ghost use Rattle.machine.specs.Registers.{countAt, kindOf, registerOf, sharesOf, soundRegister, widthAt};
+ghost use Rattle.machine.specs.Step.{valueOf};
+use crate::registers::Register;
+use gate::Sharing;
+use ring::Ring;
+
+impl Register {
+    pub fn is_empty(self) -> bool
+        ensures { λ r. ⌜ r ≡ isEmpty (kindOf self) ⌝ }
+    {
+        match self {
+            Register::Empty => true,
+            Register::Number(_, _) => false,
+            Register::Bits(_, _) => false,
+        }
+    }
+
+    pub fn is_number(self) -> bool
+        ensures { λ r. ⌜ r ≡ isNumber (kindOf self) ⌝ }
+    {
+        match self {
+            Register::Empty => false,
+            Register::Number(_, _) => true,
+            Register::Bits(_, _) => false,
+        }
+    }
+
+    pub fn is_bits(self) -> bool
+        ensures { λ r. ⌜ r ≡ isBits (kindOf self) ⌝ }
+    {
+        match self {
+            Register::Empty => false,
+            Register::Number(_, _) => false,
+            Register::Bits(_, _) => true,
+        }
+    }
+
+    // The ring of a number.
+    pub fn ring(self) -> Ring
+        ensures { λ r. ⌜ (isNumber (kindOf self) ≡ true → widthAt (kindOf self) ≡ widthOf r) ⌝ }
+    {
+        match self {
+            Register::Empty => Ring::R13,
+            Register::Number(r, _) => r,
+            Register::Bits(_, _) => Ring::R13,
+        }
+    }
+
+    // e of a number, else 0.
+    pub fn width(self) -> u64
+        ensures { λ r. ⌜ r ≡ widthAt (kindOf self) ⌝ }
+    {
+        match self {
+            Register::Empty => 0,
+            Register::Number(r, _) => r.width(),
+            Register::Bits(_, _) => 0,
+        }
+    }
+
+    // p of a number, else 0.
+    pub fn modulus(self) -> u64
+        ensures { λ r. ⌜ r ≡ modulus (widthAt (kindOf self)) ⌝ }
+    {
+        match self {
+            Register::Empty => 0,
+            Register::Number(r, _) => r.modulus(),
+            Register::Bits(_, _) => 0,
+        }
+    }
+
+    // l of bits, else 0.
+    pub fn count(self) -> u64
+        ensures { λ r. ⌜ r ≡ countAt (kindOf self) ⌝ }
+    {
+        match self {
+            Register::Empty => 0,
+            Register::Number(_, _) => 0,
+            Register::Bits(l, _) => l,
+        }
+    }
+
+    // The sub-shares, zeros where there are none.
+    pub fn shares(self) -> Sharing
+        ensures { λ r. ⌜ r ≡ sharesOf self ⌝ }
+    {
+        match self {
+            Register::Empty => Sharing {
+                s0: 0,
+                s1: 0,
+                s2: 0,
+            },
+            Register::Number(_, x) => x,
+            Register::Bits(_, x) => x,
+        }
+    }
+
+    // A register of this kind with other sub-shares.
+    pub fn with_shares(self, x: Sharing) -> Register
+        ensures { λ r. ⌜ r ≡ registerOf (kindOf self) x ⌝ }
+    {
+        match self {
+            Register::Empty => Register::Empty,
+            Register::Number(r, _) => Register::Number(r, x),
+            Register::Bits(l, _) => Register::Bits(l, x),
+        }
+    }
+
+    // The total of a number, the exclusive or of bits.
+    pub fn value(self) -> u64
+        requires { ⌜ soundRegister self ≡ true ⌝ }
+        ensures { λ r. ⌜ r ≡ valueOf self ⌝ }
+    {
+        match self {
+            Register::Empty => 0,
+            Register::Number(r, x) => {
+                let half = r.add(x.s0, x.s1);
+                r.add(half, x.s2)
+            }
+            Register::Bits(_, x) => x.s0 ^ x.s1 ^ x.s2,
+        }
+    }
+}

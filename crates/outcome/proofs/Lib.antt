@@ -1,0 +1,7 @@
+pub mod CheckLaw
+pub mod RegisterLaw
+pub mod KindLaw
+pub mod WorkLaw
+pub mod ChannelLaw
+pub mod Theorems
+pub mod Same

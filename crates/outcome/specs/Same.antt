@@ -1,0 +1,41 @@
+-- Two records that are the same in all that is public and in every value, though not in their sub-shares.
+use Prim.Native.Nat.{ℕ}
+use mathlib.Core.Bool.{true}
+use mathlib.Core.List.{List}
+use mathlib.Core.Path.{_≡_}
+use lib.ListN.{length}
+use Rattle.gate.specs.Places.{Place}
+use Rattle.machine.specs.Checks.{Tapes}
+use Rattle.machine.specs.Registers.{publicOf, sound}
+use Rattle.machine.specs.Step.{step}
+use Rattle.machine.specs.declared.orders.Order.{Order}
+use Rattle.machine.specs.declared.registers.Machine.{Machine}
+use Rattle.job.specs.Jobs.{TakesSmall}
+use Rattle.outcome.specs.Theorems.{valueAt}
+
+-- a sound record of sixteen registers
+pub record Good (m : Machine) : Type 0 where
+  pub sound : sound m ≡ true
+  pub slots : length (m .slots) ≡ 16
+
+pub record Same (m n : Machine) : Type 0 where
+  pub left : Good m
+  pub right : Good n
+  pub public : publicOf m ≡ publicOf n
+  pub values : (k : ℕ) → valueAt m k ≡ valueAt n k
+
+-- an accepted order keeps a record good
+abbrev pub KeepsGood : Type 0
+KeepsGood = (o : Order) (m : Machine) (T : Tapes) (c : Place → List ℕ)
+    → Good m
+    → step o m T c .refusal ≡ 0
+    → Good (step o m T c .machine)
+
+-- and two the same, whatever the tapes: values depend on values alone, where 4a is below p
+abbrev pub KeepsSame : Type 0
+KeepsSame = (o : Order) (m n : Machine) (T T′ : Tapes) (c c′ : Place → List ℕ)
+    → Same m n
+    → step o m T c .refusal ≡ 0
+    → step o n T′ c′ .refusal ≡ 0
+    → TakesSmall o m
+    → Same (step o m T c .machine) (step o n T′ c′ .machine)

@@ -1,0 +1,161 @@
+-- Demand 3 (crate `job`, specs/Secrecy.antt).
+use Prim.Native.Nat.{ℕ}
+use mathlib.Core.Bool.{true}
+use mathlib.Core.List.{List, [], _∷_}
+use mathlib.Core.Path.{_≡_, ap, refl, subst, sym, _∙_}
+use lib.ListN.{length}
+use Rattle.gate.specs.Places.{Place, next}
+use Rattle.view.specs.Views.{around, lackedBy}
+use Rattle.machine.specs.Checks.{Tapes}
+use Rattle.machine.specs.Registers.{emptyMachine, sound, soundRegister, soundSlots}
+use Rattle.machine.specs.declared.orders.Order.{Order}
+use Rattle.party.specs.Own.{ownOf}
+use Rattle.job.specs.Jobs.{Alike, AlikeEntries, AlikeLists, AlikeOrders, Entry, Fair, IsRun, Job, Words, course, opens, views}
+use Rattle.job.specs.Jobs as jobs
+use Rattle.job.specs.Secrecy.{Change, Hidden, Hides, Secrecy, tapesWith}
+use Rattle.outcome.specs.Same.{Good, Same}
+use Rattle.change.specs.Changes.{Changed, restOf}
+use Rattle.change.proofs.AroundLaw.{around-far, around-lacked, around-own, each-around}
+use Rattle.change.proofs.InverseLaw.{change, inverse, unique}
+use Rattle.change.proofs.LeftLaw.{SameLengths}
+use Rattle.change.proofs.LevelLaw.{Level}
+use Rattle.change.proofs.SizeLaw.{hides-kept}
+use Rattle.secrecy.proofs.FollowLaw.{EvenTapes}
+use Rattle.secrecy.proofs.Forward.{Four, forward}
+
+-- being alike goes both ways
+orders-back : {o o′ : Order} → AlikeOrders o o′ → AlikeOrders o′ o
+orders-back jobs.same = jobs.same
+orders-back jobs.dealt = jobs.dealt
+
+lists-back : {es fs : List Entry} → AlikeLists es fs → AlikeLists fs es
+lists-back jobs.done = jobs.done
+lists-back (jobs.more a tail) =
+    jobs.more (record { order = orders-back (a .order); masksLent = sym (a .masksLent); dealerLent = sym (a .dealerLent) }) (lists-back tail)
+
+alike-back : {J K : Job} → Alike J K → Alike K J
+alike-back a =
+    record {
+      entries = lists-back (a .entries);
+      channels = sym (a .channels);
+      masksLength = sym (a .masksLength);
+      dealerLength = sym (a .dealerLength);
+    }
+
+-- the empty machine
+empty-good : Good emptyMachine
+unfolding emptyMachine sound soundSlots soundRegister
+empty-good = record { sound = refl; slots = refl }
+
+empty-same : Same emptyMachine emptyMachine
+empty-same = record { left = empty-good; right = empty-good; public = refl; values = λ k. refl }
+
+module _ (U : Place) (own far : List ℕ) where
+  -- the change from J to K
+  image : (J K : Job) → Alike J K → Hidden → Hidden
+  image J K a h = change U own far h (J .entries) (K .entries) (a .entries) emptyMachine emptyMachine (J .channels) (K .channels) .0
+
+  changed : (J K : Job) (a : Alike J K) (h : Hidden)
+      → Changed U own far h (J .entries) (K .entries) emptyMachine emptyMachine (J .channels) (K .channels) (image J K a h)
+  unfolding image
+  changed J K a h = change U own far h (J .entries) (K .entries) (a .entries) emptyMachine emptyMachine (J .channels) (K .channels) .1
+
+  image-hides : (J K : Job) (a : Alike J K) (h : Hidden) → Hides J U h → Hides K U (image J K a h)
+  image-hides J K a h hides =
+      let kept = hides-kept U own far h J (changed J K a h) (a .entries) hides in
+      record {
+        dealer = subst (λ (n : ℕ). Words n (image J K a h .dealer)) (a .dealerLength) (kept .dealer);
+        lacked = subst (λ (n : Place → ℕ). Words (n (lackedBy U)) (image J K a h .lacked)) (a .masksLength) (kept .lacked);
+      }
+
+  starts-level : (J K : Job) → Alike J K → Level emptyMachine emptyMachine (J .channels) (K .channels)
+  starts-level J K a =
+      record {
+        public = refl;
+        left = empty-good .sound;
+        right = empty-good .sound;
+        lengths = λ i. ap (λ (c : Place → List ℕ). length (c i)) (a .channels);
+      }
+
+  same-lengths : (J K : Job) (a : Alike J K) (h : Hidden) → Hides J U h → SameLengths h (image J K a h)
+  same-lengths J K a h hides =
+      let hidden = image-hides J K a h hides in
+      record {
+        dealer = hides .dealer .long ∙ a .dealerLength ∙ sym (hidden .dealer .long);
+        lacked = hides .lacked .long ∙ ap (λ (n : Place → ℕ). n (lackedBy U)) (a .masksLength) ∙ sym (hidden .lacked .long);
+      }
+
+  -- and back again
+  image-back : (J K : Job) (a : Alike J K) (b : Alike K J) (h : Hidden) → Hides J U h → image K J b (image J K a h) ≡ h
+  unfolding emptyMachine
+  image-back J K a b h hides =
+      let k = image J K a h in
+      unique U own far (changed K J b k)
+      (inverse U own far (changed J K a h) (a .entries) k (same-lengths J K a h hides) (starts-level J K a) refl)
+
+  -- at the start all of a tape is left
+  all-left : (k : Hidden) → restOf emptyMachine k ≡ k
+  unfolding emptyMachine
+  all-left k = refl
+
+  -- tapes of a job's lengths
+  even-tapes : (J : Job) (T : Tapes) → IsRun J T → Words (J .masksLength U) own → Words (J .masksLength (next U)) far
+      → (h : Hidden) → Hides J U h → EvenTapes T (tapesWith U own far h)
+  even-tapes J T run wo wf h hides =
+      record {
+        masks = each-around U (λ i. length (T .masks i) ≡ length (around U own far (h .lacked) i))
+            (run .masks U .long ∙ sym (wo .long) ∙ ap length (sym (around-own U own far (h .lacked))))
+            (run .masks (next U) .long ∙ sym (wf .long) ∙ ap length (sym (around-far U own far (h .lacked))))
+            (run .masks (lackedBy U) .long ∙ sym (hides .lacked .long) ∙ ap length (sym (around-lacked U own far (h .lacked))));
+        dealer = run .dealer .long ∙ sym (hides .dealer .long);
+      }
+
+  -- a fair run of J goes to a fair run of K, and looks the same
+  carried : (J K : Job) (a : Alike J K) (T T′ : Tapes) → IsRun J T → IsRun K T′ → Fair J T → Fair K T′ → opens J T ≡ opens K T′
+      → Words (J .masksLength U) own → Words (J .masksLength (next U)) far
+      → (h : Hidden) → Hides J U h → Fair J (tapesWith U own far h)
+      → Fair K (tapesWith U own far (image J K a h))
+      × (views U J (tapesWith U own far h) ≡ views U K (tapesWith U own far (image J K a h)))
+  unfolding course
+  carried J K a T T′ run run′ fairT fairT′ opened wo wf h hides fairJ =
+      let k = image J K a h in
+      let wo′ = subst (λ (n : Place → ℕ). Words (n U) own) (a .masksLength) wo in
+      let wf′ = subst (λ (n : Place → ℕ). Words (n (next U)) far) (a .masksLength) wf in
+      forward U own far h k (same-lengths J K a h hides) T T′
+      (even-tapes J T run wo wf h hides)
+      (even-tapes K T′ run′ wo′ wf′ k (image-hides J K a h hides))
+      (changed J K a h) (a .entries)
+      (record {
+        followsJ = empty-same;
+        followsK = empty-same;
+        own = ap (ownOf U emptyMachine) (a .channels);
+        lengthsJ = λ i. refl;
+        lengthsK = λ i. refl;
+        lengths = λ i. ap (λ (c : Place → List ℕ). length (c i)) (a .channels);
+      })
+      (all-left k)
+      fairT fairT′ opened fairJ
+
+pub secrecy : Secrecy
+secrecy J K a T T′ run run′ fairT fairT′ opened U own far wo wf =
+    let wo′ = subst (λ (n : Place → ℕ). Words (n U) own) (a .masksLength) wo in
+    let wf′ = subst (λ (n : Place → ℕ). Words (n (next U)) far) (a .masksLength) wf in
+    let to = image U own far J K a in
+    let from = image U own far K J (alike-back a) in
+    let forth = carried U own far J K a T T′ run run′ fairT fairT′ opened wo wf in
+    let back = carried U own far K J (alike-back a) T′ T run′ run fairT′ fairT (sym opened) wo′ wf′ in
+    let home = image-back U own far J K a (alike-back a) in
+    record {
+      to = to;
+      from = from;
+      to-hides = image-hides U own far J K a;
+      from-hides = image-hides U own far K J (alike-back a);
+      from-to = home;
+      to-from = image-back U own far K J (alike-back a) a;
+      fair = λ h hides. (
+        (λ f. forth h hides f .0),
+        (λ f. subst (λ (x : Hidden). Fair J (tapesWith U own far x)) (home h hides)
+            (back (to h) (image-hides U own far J K a h hides) f .0)),
+      );
+      alike = λ h hides f. forth h hides f .1;
+    }

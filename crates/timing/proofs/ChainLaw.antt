@@ -1,0 +1,155 @@
+-- One gate more on a chain, and the tests that start one.
+use Prim.Native.Nat.{ℕ, suc, _+_, _*_, _-_, _/_, _≤_, _<_}
+use mathlib.Core.Bool.{Bool, _&&_, and-eq-true-iff, cond, false, true}
+use mathlib.Core.List.{List, [], _++_, _∷_, append-assoc, append-nil, map}
+use mathlib.Core.Path.{_≡_, refl, sym, ap, _∙_}
+use native.Mathlib.Nat.{sub-zero}
+use native.Mathlib.Numerals.{add-one}
+use native.Mathlib.Omega.{arith}
+use borrow.Author.Tests.{eqb-true, leb-true, ltb-true}
+use borrow.Rule.Slice.PartMut.{midOf, mid-len, putMid, set-mid-at}
+use lib.ListN.{length, length-append, length-map, set}
+use lib.Seq.{drop-cons, set-at}
+use Rattle.gate.specs.declared.sharing.Sharing.{Sharing}
+use Rattle.gate.specs.Places.{InRange, Sent}
+use Rattle.ring.specs.declared.rings.OfWidth.{OfWidth}
+use Rattle.ring.specs.declared.rings.OfWidth.the-variants.{Named, NoRing}
+use Rattle.ring.specs.declared.rings.Ring.{Ring}
+use Rattle.ring.specs.Rings.{modulusOf, ringOf}
+use Rattle.timing.specs.Chains.{Ran, chain, gateOf, gates, inRange, shaped, started, tripleAt, written}
+
+map-append : (f : Sharing → ℕ) (zs ws : List Sharing) → map f (zs ++ ws) ≡ map f zs ++ map f ws
+map-append f [] ws = refl
+map-append f (z ∷ zs) ws = ap (λ (l : List ℕ). f z ∷ l) (map-append f zs ws)
+
+-- the channel with one word more, stored at the head of its part from gate i on
+word-more : (f : Sharing → ℕ) (zs : List Sharing) (z : Sharing) {i : ℕ} (c d e : List ℕ)
+    → i ≡ length zs → i < length c → length d ≡ length c → d ≡ written f zs c
+    → e ≡ set (midOf i (length d - i) d) 0 (f z)
+    → putMid i (length d - i) d e ≡ written f (zs ++ (z ∷ [])) c
+unfolding written
+word-more f zs z {i} c d e count room same is stored =
+    let long = mid-len i (length d) d (omega arith) in
+    let here : length (map f zs) ≡ i + 0 = rw length-map (omega arith) in
+    let inside : length zs < length c = omega arith in
+    rw (
+      stored,
+      set-mid-at i (length d - i) 0 d (f z) (omega arith),
+      is,
+      drop-cons c (length zs) 0 inside,
+      set-at (map f zs) _ _ (f z) (i + 0) here,
+      map-append,
+      length-append,
+      add-one,
+      append-assoc,
+    )
+
+-- gate i is reached: what is done, and what z leads to
+pub record Reached (p : ℕ) (x y : Sharing) (items c₀ c₁ c₂ : List ℕ) (i : ℕ) (z : Sharing) (d₀ d₁ d₂ : List ℕ) : Type 0 where
+  pub done : List Sharing
+  pub whole : chain p y items (length c₀) 0 x ≡ done ++ chain p y items (length c₀ - i) i z
+  pub ran : Ran done i c₀ c₁ c₂ d₀ d₁ d₂
+
+-- what a test of the code says of the definition's
+pub test-of : {p q : ℕ} (s : Sharing) {found told : Bool} → q ≡ p → found ≡ inRange q s → found ≡ told → inRange p s ≡ told
+test-of s hp is said = cc
+
+pub range-of : {p : ℕ} {s : Sharing} → inRange p s ≡ true → InRange p s
+unfolding inRange
+range-of {p} {s} h =
+    let halves = and-eq-true-iff _ _ .0 h in
+    let first = and-eq-true-iff _ _ .0 (halves .0) in
+    record { zero = ltb-true _ _ (first .0); one = ltb-true _ _ (first .1); two = ltb-true _ _ (halves .1) }
+
+module _ (p : ℕ) (x y : Sharing) (items c₀ c₁ c₂ : List ℕ) where
+  pub at-start : Reached p x y items c₀ c₁ c₂ 0 x c₀ c₁ c₂
+  unfolding written
+  at-start = record { done = []; whole = rw sub-zero; ran = record { answers = refl; zero = refl; one = refl; two = refl } }
+
+  module _ {i : ℕ} {z : Sharing} {d₀ d₁ d₂ : List ℕ} (r : Reached p x y items c₀ c₁ c₂ i z d₀ d₁ d₂) where
+    -- where the chain ends at z, what was done is all of it
+    ended : chain p y items (length c₀ - i) i z ≡ [] → Ran (chain p y items (length c₀) 0 x) i c₀ c₁ c₂ d₀ d₁ d₂
+    ended e = rw (r .whole, e, append-nil) (r .ran)
+
+    pub full : length c₀ ≤ i → Ran (chain p y items (length c₀) 0 x) i c₀ c₁ c₂ d₀ d₁ d₂
+    unfolding chain
+    full h = let none : length c₀ - i ≡ 0 = omega arith in ended (rw none)
+
+    pub stopped : {t : Sharing} → i < length c₀ → t ≡ tripleAt items (3 * i) → inRange p t ≡ false
+        → Ran (chain p y items (length c₀) 0 x) i c₀ c₁ c₂ d₀ d₁ d₂
+    unfolding chain
+    stopped h read out =
+        let split : length c₀ - i ≡ suc (length c₀ - (i + 1)) = omega arith in
+        ended (rw (split, ap (inRange p) (sym read) ∙ out))
+
+    pub went-on : {t z′ : Sharing} {e₀ e₁ e₂ : List ℕ}
+        → i < length c₀ → length c₁ ≡ length c₀ → length c₂ ≡ length c₀
+        → length d₀ ≡ length c₀ → length d₁ ≡ length c₁ → length d₂ ≡ length c₂
+        → t ≡ tripleAt items (3 * i) → inRange p t ≡ true → z′ ≡ gateOf p z y t
+        → Sent z′ (midOf i (length d₀ - i) d₀) (midOf i (length d₁ - i) d₁) (midOf i (length d₂ - i) d₂) e₀ e₁ e₂
+        → Reached p x y items c₀ c₁ c₂ (i + 1) z′ (putMid i (length d₀ - i) d₀ e₀) (putMid i (length d₁ - i) d₁ e₁) (putMid i (length d₂ - i) d₂ e₂)
+    unfolding chain
+    went-on {t} {z′} h same₁ same₂ l₀ l₁ l₂ read fits is sent =
+        let split : length c₀ - i ≡ suc (length c₀ - (i + 1)) = omega arith in
+        let count : i + 1 ≡ length (r .done ++ (z′ ∷ [])) = rw length-append (omega (arith, r .ran .answers)) in
+        record {
+          done = r .done ++ (z′ ∷ []);
+          whole = r .whole ∙ rw (split, ap (inRange p) (sym read) ∙ fits, append-assoc, is ∙ ap (gateOf p z y) read, add-one i);
+          ran = record {
+            answers = count;
+            zero = word-more _ (r .done) z′ c₀ d₀ _ (r .ran .answers) h l₀ (r .ran .zero) (sent .zero);
+            one = word-more _ (r .done) z′ c₁ d₁ _ (r .ran .answers) (omega arith) l₁ (r .ran .one) (sent .one);
+            two = word-more _ (r .done) z′ c₂ d₂ _ (r .ran .answers) (omega arith) l₂ (r .ran .two) (sent .two);
+          };
+        }
+
+-- no gate is done
+pub nothing : (c₀ c₁ c₂ : List ℕ) → Ran [] 0 c₀ c₁ c₂ c₀ c₁ c₂
+unfolding written
+nothing c₀ c₁ c₂ = record { answers = refl; zero = refl; one = refl; two = refl }
+
+pub started-as : {p q : ℕ} {a b told : Bool} (x y : Sharing) (items : List ℕ) (n : ℕ)
+    → q ≡ p → a ≡ inRange q x → b ≡ inRange q y → a && b ≡ told
+    → started p x y items n ≡ cond told (chain p y items n 0 x) []
+unfolding started
+started-as x y items n hp ha hb test = rw (← hp, ← ha, ← hb, test)
+
+module _ (width : ℕ) (x y items c₀ c₁ c₂ : List ℕ) {found : OfWidth} (is : found ≡ ringOf width) where
+  pub no-ring : found ≡ NoRing → Ran (gates width x y items c₀ c₁ c₂) 0 c₀ c₁ c₂ c₀ c₁ c₂
+  unfolding gates
+  no-ring none = rw (← is, none) (nothing c₀ c₁ c₂)
+
+  module _ {r : Ring} {fit : Bool} (named : found ≡ Named r)
+      (test : fit ≡ shaped (length x) (length y) (length items) (length c₀) (length c₁) (length c₂)) where
+    pub misfit : fit ≡ false → Ran (gates width x y items c₀ c₁ c₂) 0 c₀ c₁ c₂ c₀ c₁ c₂
+    unfolding gates
+    misfit said = rw (← is, named, ← test, said) (nothing c₀ c₁ c₂)
+
+    pub ran-all : {s t : Sharing} {n : ℕ} {d₀ d₁ d₂ : List ℕ} → fit ≡ true → s ≡ tripleAt x 0 → t ≡ tripleAt y 0
+        → Ran (started (modulusOf r) s t items (length c₀)) n c₀ c₁ c₂ d₀ d₁ d₂
+        → Ran (gates width x y items c₀ c₁ c₂) n c₀ c₁ c₂ d₀ d₁ d₂
+    unfolding gates
+    ran-all said left right ran = rw (← is, named, ← test, said, ← left, ← right) ran
+
+-- what the lengths' test says
+pub record Fitting (x y items n₀ n₁ n₂ : ℕ) : Type 0 where
+  pub left : x ≡ 3
+  pub right : y ≡ 3
+  pub one : n₁ ≡ n₀
+  pub two : n₂ ≡ n₀
+  pub enough : n₀ ≤ items / 3
+
+pub fitting : {x y items n₀ n₁ n₂ : ℕ} {fit : Bool} → fit ≡ shaped x y items n₀ n₁ n₂ → fit ≡ true → Fitting x y items n₀ n₁ n₂
+unfolding shaped
+fitting is said =
+    let all = and-eq-true-iff _ _ .0 (sym is ∙ said) in
+    let three = and-eq-true-iff _ _ .0 (all .0) in
+    let two = and-eq-true-iff _ _ .0 (three .0) in
+    let rest = and-eq-true-iff _ _ .0 (three .1) in
+    record {
+      left = eqb-true _ _ (two .0);
+      right = eqb-true _ _ (two .1);
+      one = eqb-true _ _ (rest .0);
+      two = eqb-true _ _ (rest .1);
+      enough = leb-true _ _ (all .1);
+    }

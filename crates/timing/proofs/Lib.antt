@@ -1,0 +1,2 @@
+pub mod ChainLaw
+pub mod ProductLaw
