@@ -1,4 +1,4 @@
--- Demand 3: one claim about whole jobs. Proof: proofs/Secrecy.antt.
+-- Demand 3: one claim about whole jobs. Proof: crate `secrecy`, proofs/Secrecy.antt.
 use Prim.Native.Nat.{ℕ}
 use mathlib.Core.List.{List}
 use mathlib.Core.Logic.{_↔_}
@@ -22,6 +22,14 @@ pub record Hides (J : Job) (U : Place) (h : Hidden) : Type 0 where
   pub dealer : Words (J .dealerLength) (h .dealer)
   pub lacked : Words (J .masksLength (lackedBy U)) (h .lacked)
 
+-- one fair run of each job, that open the same
+pub record Meet (J K : Job) (T T′ : Tapes) : Type 0 where
+  pub runJ : IsRun J T
+  pub runK : IsRun K T′
+  pub fairJ : Fair J T
+  pub fairK : Fair K T′
+  pub opened : opens J T ≡ opens K T′
+
 -- "The change may depend on both jobs and on U's two strands, which it leaves alone. It keeps all lengths; each fair run of J goes
 -- to a fair run of K, and each of those comes from exactly one. In a run and its image these are equal after every order: .."
 pub record Change (J K : Job) (U : Place) (own far : List ℕ) : Type 0 where
@@ -31,13 +39,13 @@ pub record Change (J K : Job) (U : Place) (own far : List ℕ) : Type 0 where
   pub from-hides : (h : Hidden) → Hides K U h → Hides J U (from h)
   pub from-to : (h : Hidden) → Hides J U h → from (to h) ≡ h
   pub to-from : (h : Hidden) → Hides K U h → to (from h) ≡ h
-  pub fair : (h : Hidden) → Hides J U h → Fair J (tapesWith U own far h) ↔ Fair K (tapesWith U own far (to h))
-  pub alike : (h : Hidden) → Hides J U h → Fair J (tapesWith U own far h)
+  pub fair : (T T′ : Tapes) → Meet J K T T′ → (h : Hidden) → Hides J U h
+      → Fair J (tapesWith U own far h) ↔ Fair K (tapesWith U own far (to h))
+  pub alike : (T T′ : Tapes) → Meet J K T T′ → (h : Hidden) → Hides J U h → Fair J (tapesWith U own far h)
       → views U J (tapesWith U own far h) ≡ views U K (tapesWith U own far (to h))
 
--- two jobs alike in all but the numbers dealt, which open the same in one fair run of each, look the same to any single party
+-- two jobs that differ in the numbers dealt alone, which open the same in one fair run of each, look the same to any single party
 abbrev pub Secrecy : Type 0
 Secrecy = (J K : Job) → Alike J K
-    → (T T′ : Tapes) → IsRun J T → IsRun K T′ → Fair J T → Fair K T′ → opens J T ≡ opens K T′
     → (U : Place) (own far : List ℕ) → Words (J .masksLength U) own → Words (J .masksLength (next U)) far
     → Change J K U own far

@@ -1,1 +1,1 @@
-// Jobs as lists of orders, and demand 3 about whole jobs. Definitions and proofs only.
+// Jobs as lists of orders, and what demand 3 says of them. Definitions and statements only; the proof is in `secrecy`.

@@ -10,9 +10,9 @@ use Rattle.machine.specs.Checks.{Tapes}
 use Rattle.machine.specs.Registers.{emptyMachine, sound, soundRegister, soundSlots}
 use Rattle.machine.specs.declared.orders.Order.{Order}
 use Rattle.party.specs.Own.{ownOf}
-use Rattle.job.specs.Jobs.{Alike, AlikeEntries, AlikeLists, AlikeOrders, Entry, Fair, IsRun, Job, Words, course, opens, views}
+use Rattle.job.specs.Jobs.{Alike, AlikeEntries, AlikeLists, AlikeOrders, Entry, Fair, IsRun, Job, Words, course, views}
 use Rattle.job.specs.Jobs as jobs
-use Rattle.job.specs.Secrecy.{Change, Hidden, Hides, Secrecy, tapesWith}
+use Rattle.job.specs.Secrecy.{Change, Hidden, Hides, Meet, Secrecy, tapesWith}
 use Rattle.outcome.specs.Same.{Good, Same}
 use Rattle.change.specs.Changes.{Changed, restOf}
 use Rattle.change.proofs.AroundLaw.{around-far, around-lacked, around-own, each-around}
@@ -111,19 +111,18 @@ module _ (U : Place) (own far : List ℕ) where
       }
 
   -- a fair run of J goes to a fair run of K, and looks the same
-  carried : (J K : Job) (a : Alike J K) (T T′ : Tapes) → IsRun J T → IsRun K T′ → Fair J T → Fair K T′ → opens J T ≡ opens K T′
-      → Words (J .masksLength U) own → Words (J .masksLength (next U)) far
-      → (h : Hidden) → Hides J U h → Fair J (tapesWith U own far h)
+  carried : (J K : Job) (a : Alike J K) → Words (J .masksLength U) own → Words (J .masksLength (next U)) far
+      → (T T′ : Tapes) → Meet J K T T′ → (h : Hidden) → Hides J U h → Fair J (tapesWith U own far h)
       → Fair K (tapesWith U own far (image J K a h))
-      × (views U J (tapesWith U own far h) ≡ views U K (tapesWith U own far (image J K a h)))
+        × (views U J (tapesWith U own far h) ≡ views U K (tapesWith U own far (image J K a h)))
   unfolding course
-  carried J K a T T′ run run′ fairT fairT′ opened wo wf h hides fairJ =
+  carried J K a wo wf T T′ meet h hides fairJ =
       let k = image J K a h in
       let wo′ = subst (λ (n : Place → ℕ). Words (n U) own) (a .masksLength) wo in
       let wf′ = subst (λ (n : Place → ℕ). Words (n (next U)) far) (a .masksLength) wf in
       forward U own far h k (same-lengths J K a h hides) T T′
-      (even-tapes J T run wo wf h hides)
-      (even-tapes K T′ run′ wo′ wf′ k (image-hides J K a h hides))
+      (even-tapes J T (meet .runJ) wo wf h hides)
+      (even-tapes K T′ (meet .runK) wo′ wf′ k (image-hides J K a h hides))
       (changed J K a h) (a .entries)
       (record {
         followsJ = empty-same;
@@ -134,28 +133,30 @@ module _ (U : Place) (own far : List ℕ) where
         lengths = λ i. ap (λ (c : Place → List ℕ). length (c i)) (a .channels);
       })
       (all-left k)
-      fairT fairT′ opened fairJ
+      (meet .fairJ) (meet .fairK) (meet .opened) fairJ
+
+meet-back : {J K : Job} {T T′ : Tapes} → Meet J K T T′ → Meet K J T′ T
+meet-back m = record { runJ = m .runK; runK = m .runJ; fairJ = m .fairK; fairK = m .fairJ; opened = sym (m .opened) }
 
 pub secrecy : Secrecy
-secrecy J K a T T′ run run′ fairT fairT′ opened U own far wo wf =
+secrecy J K a U own far wo wf =
     let wo′ = subst (λ (n : Place → ℕ). Words (n U) own) (a .masksLength) wo in
     let wf′ = subst (λ (n : Place → ℕ). Words (n (next U)) far) (a .masksLength) wf in
     let to = image U own far J K a in
-    let from = image U own far K J (alike-back a) in
-    let forth = carried U own far J K a T T′ run run′ fairT fairT′ opened wo wf in
-    let back = carried U own far K J (alike-back a) T′ T run′ run fairT′ fairT (sym opened) wo′ wf′ in
-    let home = image-back U own far J K a (alike-back a) in
-    record {
-      to = to;
-      from = from;
-      to-hides = image-hides U own far J K a;
-      from-hides = image-hides U own far K J (alike-back a);
-      from-to = home;
-      to-from = image-back U own far K J (alike-back a) a;
-      fair = λ h hides. (
-        (λ f. forth h hides f .0),
-        (λ f. subst (λ (x : Hidden). Fair J (tapesWith U own far x)) (home h hides)
-            (back (to h) (image-hides U own far J K a h hides) f .0)),
-      );
-      alike = λ h hides f. forth h hides f .1;
-    }
+    let b = alike-back a in
+    let forth = carried U own far J K a wo wf in
+    let back = carried U own far K J b wo′ wf′ in
+    let home = image-back U own far J K a b in
+    record
+      { to = to
+      ; from = image U own far K J b
+      ; to-hides = image-hides U own far J K a
+      ; from-hides = image-hides U own far K J b
+      ; from-to = home
+      ; to-from = image-back U own far K J b a
+      ; fair = λ T T′ meet h hides.
+          ( (λ f. forth T T′ meet h hides f .0)
+          , (λ f. subst (λ (x : Hidden). Fair J (tapesWith U own far x)) (home h hides)
+              (back T′ T (meet-back meet) (to h) (image-hides U own far J K a h hides) f .0)) )
+      ; alike = λ T T′ meet h hides f. forth T T′ meet h hides f .1
+      }

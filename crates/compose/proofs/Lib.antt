@@ -1,0 +1,7 @@
+pub mod ImageLaw
+pub mod QuotientLaw
+pub mod RunsLaw
+pub mod ShareLaw
+pub mod StepLaw
+pub mod SumLaw
+pub mod TurnLaw

@@ -1,0 +1,74 @@
+-- What the code works out at one place is the definition's share.
+use Prim.Native.Nat.{ℕ, _+_, _*_, _%_, _<_}
+use mathlib.Core.Path.{_≡_, _∙_}
+use native.Mathlib.Nat.{add-mod-mod, mod-lt}
+use native.Mathlib.Omega.{arith}
+use lib.Bits.{bitXor, xor-lt}
+use lib.Dec.{lit<}
+use Rattle.ring.specs.Modular.{diff}
+use Rattle.ring.specs.Rings.{bitOf, modulus, modulusOf, quarter, quarterOf}
+use Rattle.ring.specs.declared.rings.Ring.{Ring}
+use Rattle.ring.specs.declared.rings.Ring.the-variants.{R13, R31, R61}
+use Rattle.ring.proofs.BitLaw.{xor-bit}
+use Rattle.ring.proofs.CongLaw.{cong-mod, cong-mul, cong-of-eq, cong-refl, cong-trans, diff-cong}
+use Rattle.gate.specs.Places.{Place, parts, three}
+use Rattle.gate.specs.declared.sharing.Sharing.{Sharing}
+use Rattle.gate.proofs.PlaceLaw.{each}
+use Rattle.circuit.specs.Compose.{joined}
+use Rattle.compose.specs.Quotients.{quotientWith}
+
+-- u + v - 2uv
+pub join-is : (m u v uv : ℕ) {a b h : ℕ} → 0 < m
+    → a ≡ (u + v) % m → b ≡ (uv + uv) % m → h ≡ diff m a b → h ≡ joined m u v uv
+join-is m u v uv pos sum double is =
+    let twice : uv + uv ≡ 2 * uv = omega arith in
+    is ∙ diff-cong pos (cong-trans (cong-of-eq sum) (cong-mod m (u + v)))
+    (cong-trans (cong-of-eq double) (cong-trans (cong-mod m (uv + uv)) (cong-of-eq twice)))
+
+pub quarter-lt : (r : Ring) → quarterOf r < modulusOf r
+unfolding modulus quarter
+quarter-lt R13 = lit< tt
+quarter-lt R31 = lit< tt
+quarter-lt R61 = lit< tt
+
+pub reduced-lt : (a : ℕ) {m n : ℕ} → m ≡ n → 0 < n → a % m < n
+reduced-lt a e pos = rw e (mod-lt a pos)
+
+-- 4^(-1) × (x - p q)
+pub quartered-is : (n k p x q : ℕ) {m j pq rest r : ℕ} → 0 < n
+    → m ≡ n → pq ≡ p * q % n → rest ≡ diff n (x % m) pq → j ≡ k → r ≡ j * rest % n
+    → r ≡ k * diff n x (p * q) % n
+quartered-is n k p x q pos known product difference inverse is =
+    let rest-is : diff n (x % n) (p * q % n) ≡ diff n x (p * q) = diff-cong pos (cong-mod n x) (cong-mod n (p * q)) in
+    rw (is, inverse, difference, product, known, rest-is)
+
+-- and by place, where p was reduced
+pub settled : (n k p : ℕ) (x q : Sharing) {m a z₀ z₁ z₂ : ℕ} → 0 < n
+    → m ≡ n → a ≡ p
+    → z₀ ≡ k * diff n (x .s0) (a % m * q .s0) % n
+    → z₁ ≡ k * diff n (x .s1) (a % m * q .s1) % n
+    → z₂ ≡ k * diff n (x .s2) (a % m * q .s2) % n
+    → (i : Place) → three z₀ z₁ z₂ i ≡ k * diff n (parts x i) (p * parts q i) % n
+settled n k p x q {m} {a} {z₀} {z₁} {z₂} pos known large e₀ e₁ e₂ =
+    let same : (y s : ℕ) → diff n y (a % m * s) ≡ diff n y (p * s)
+    = λ y s. rw (known, large) (diff-cong pos (cong-refl y) (cong-mul (cong-mod n p) (cong-refl s))) in
+    each (λ i. three z₀ z₁ z₂ i ≡ k * diff n (parts x i) (p * parts q i) % n)
+    (rw (← same (x .s0) (q .s0)) e₀) (rw (← same (x .s1) (q .s1)) e₁) (rw (← same (x .s2) (q .s2)) e₂)
+
+-- sum + weight × b, by place
+pub weighted : (m weight : ℕ) (sum b : Sharing) {y₀ y₁ y₂ z₀ z₁ z₂ : ℕ}
+    → y₀ ≡ weight * b .s0 % m → z₀ ≡ (sum .s0 + y₀) % m
+    → y₁ ≡ weight * b .s1 % m → z₁ ≡ (sum .s1 + y₁) % m
+    → y₂ ≡ weight * b .s2 % m → z₂ ≡ (sum .s2 + y₂) % m
+    → (i : Place) → three z₀ z₁ z₂ i ≡ (parts sum i + weight * parts b i) % m
+weighted m weight sum b {y₀} {y₁} {y₂} {z₀} {z₁} {z₂} p₀ e₀ p₁ e₁ p₂ e₂ =
+    each (λ i. three z₀ z₁ z₂ i ≡ (parts sum i + weight * parts b i) % m)
+    (rw (e₀, p₀, add-mod-mod)) (rw (e₁, p₁, add-mod-mod)) (rw (e₂, p₂, add-mod-mod))
+
+-- the two bits of q
+pub quotient-fits : {b carry : ℕ} → b < 2 → carry < 2 → bitXor b carry < 2
+quotient-fits {b} {carry} hb hc = xor-lt 1 b carry hb hc
+
+pub quotient-is : (r : ℕ) {carry low b : ℕ} → low ≡ bitOf r 0 → b ≡ bitOf r 1 → b < 2 → carry < 2 → low + 2 * bitXor b carry ≡ quotientWith r carry
+unfolding quotientWith
+quotient-is r e₀ e₁ hb hc = rw (xor-bit hb hc, e₀, e₁)

@@ -1,0 +1,187 @@
+-- Order 8's loop: one bit is two joins, and k bits are composed after k turns.
+use Prim.Native.Nat.{ℕ, _+_, _*_, _-_, _%_, _<_, _≤_, _^_}
+use mathlib.Core.List.{List}
+use mathlib.Core.Path.{_≡_, ap, refl, sym, _∙_}
+use native.Mathlib.Nat.{add-mod-mod, mod-add-mod, mod-eq-of-lt, mod-lt}
+use native.Mathlib.Omega.{arith}
+use lib.ListN.{length}
+use lib.Pow.{pow-add}
+use borrow.Rule.Slice.PartMut.{midOf, putMid, same-len-mid}
+use Rattle.ring.specs.Rings.{bitOf}
+use Rattle.gate.specs.Gates.{gated}
+use Rattle.gate.specs.Places.{InRange, Place, p0, p1, p2, parts, tabled, three}
+use Rattle.gate.specs.declared.sharing.Sharing.{Sharing}
+use Rattle.gate.proofs.PlaceLaw.{each}
+use Rattle.circuit.specs.Circuits.{after, heads, words}
+use Rattle.circuit.specs.Compose.{Summing, composeGates, firstGate, joined, secondGate, summingStart}
+use Rattle.circuit.specs.Lent.{ItemsBelow, Long}
+use Rattle.circuit.specs.Orders.{wordBit}
+use Rattle.circuit.proofs.LentLaw.{ran-gate}
+use Rattle.compose.specs.Steps.{Joins, itemsAt}
+use Rattle.compose.specs.Sums.{Holds, JoinsBit, Summed, bitGates}
+use Rattle.compose.proofs.RunsLaw.{below-less, long-less, partsFrom, putBack, ran-three, rooms}
+use Rattle.compose.proofs.StepLaw.{items-next}
+use Rattle.compose.proofs.SumLaw.{more-summed, none-summed, ran-summed}
+
+-- one bit: the two joins are its gates
+module _ (m j weight : ℕ) (w : Sharing) {sum : Place → ℕ} {s : Place → Summing ℕ} (holds : Holds (parts w) sum s) where
+  -- a bit as the states have it
+  read : (i : Place) → bitOf (s i .kept) j ≡ bitOf (parts w i) j
+  read i = ap (λ (n : ℕ). bitOf n j) (holds .kept i)
+
+  abbrev one : Place → ℕ
+  one = three (bitOf (w .s0) j) 0 0
+
+  abbrev two : Place → ℕ
+  two = three 0 (bitOf (w .s1) j) 0
+
+  abbrev last : Place → ℕ
+  last = three 0 0 (bitOf (w .s2) j)
+
+  first-words : (t : Place → ℕ) → words (firstGate wordBit m j) s t ≡ gated m one two t
+  unfolding words firstGate
+  first-words t = rw (read p0, read p1)
+
+  module _ (x half : Place → ℕ) (is : (i : Place) → half i ≡ joined m (one i) (two i) (x i)) where
+    halfway : Place → Summing ℕ
+    halfway = after (firstGate wordBit m j) s x
+
+    half-is : (i : Place) → halfway i .half ≡ half i
+    unfolding halfway after firstGate
+    half-is = each (λ i. halfway i .half ≡ half i) (rw (read p0) (sym (is p0))) (rw (read p1) (sym (is p1))) (sym (is p2))
+
+    sum-is : (i : Place) → halfway i .sum ≡ sum i
+    unfolding halfway after firstGate
+    sum-is = each (λ i. halfway i .sum ≡ sum i) (holds .sum p0) (holds .sum p1) (holds .sum p2)
+
+    read-last : bitOf (halfway p2 .kept) j ≡ bitOf (w .s2) j
+    unfolding halfway after firstGate
+    read-last = read p2
+
+    second-words : (t : Place → ℕ) → words (secondGate wordBit m j weight) halfway t ≡ gated m (tabled half) last t
+    unfolding words secondGate
+    second-words t = rw (half-is p0, half-is p1, half-is p2, read-last)
+
+    second-sums : (y b z : Place → ℕ)
+        → ((i : Place) → b i ≡ joined m (half i) (last i) (y i))
+        → ((i : Place) → z i ≡ (sum i + weight * b i) % m)
+        → (i : Place) → after (secondGate wordBit m j weight) halfway y i .sum ≡ z i
+    unfolding after secondGate
+    second-sums y b z bit-is total =
+        each (λ i. after (secondGate wordBit m j weight) halfway y i .sum ≡ z i)
+        (rw (half-is p0, sum-is p0, ← bit-is p0) (sym (total p0)))
+        (rw (half-is p1, sum-is p1, ← bit-is p1) (sym (total p1)))
+        (rw (half-is p2, sum-is p2, read-last, ← bit-is p2) (sym (total p2)))
+
+  bit-summed : {half b t t′ : Sharing} {z : Place → ℕ} {c₀ c₁ c₂ t₀ t₁ t₂ d₀ d₁ d₂ h₀ h₁ h₂ : List ℕ}
+      → Long 1 c₀ c₁ c₂
+      → Long 1 (midOf 1 (length d₀ - 1) d₀) (midOf 1 (length d₁ - 1) d₁) (midOf 1 (length d₂ - 1) d₂)
+      → parts t ≡ itemsAt 0 (three t₀ t₁ t₂)
+      → parts t′ ≡ itemsAt 1 (three t₀ t₁ t₂)
+      → Joins m one two (parts t) (three c₀ c₁ c₂) half (three d₀ d₁ d₂)
+      → Joins m (parts half) last (parts t′) (partsFrom 1 d₀ d₁ d₂) b (three h₀ h₁ h₂)
+      → ((i : Place) → z i ≡ (sum i + weight * parts b i) % m)
+      → Summed (bitGates wordBit m j weight) s (three t₀ t₁ t₂) (three c₀ c₁ c₂) z (putBack 1 d₀ d₁ d₂ h₀ h₁ h₂)
+  unfolding halfway
+  bit-summed {half} {b} {t} {t′} {z} {c₀} {c₁} {c₂} {t₀} {t₁} {t₂} room room′ items items′ joins joins′ total =
+      let T : Place → List ℕ = three t₀ t₁ t₂ in
+      let U : Place → List ℕ = partsFrom 1 t₀ t₁ t₂ in
+      let x : Place → ℕ = gated m one two (parts t) in
+      let y : Place → ℕ = gated m (parts half) last (parts t′) in
+      let later : heads U ≡ parts t′ = items-next 1 t₀ t₁ t₂ ∙ sym items′ in
+      let first = ran-gate (firstGate wordBit m j) s T (three c₀ c₁ c₂) x (rw (← items) (first-words (parts t))) (rooms room) (joins .stored) in
+      let second = ran-gate (secondGate wordBit m j weight) (halfway x (parts half) (joins .is)) U _ y
+      (rw later (second-words x (parts half) (joins .is) (parts t′))) (rooms room′) (joins′ .stored) in
+      ran-summed (ran-three refl first second) (second-sums x (parts half) (joins .is) y (parts b) z (joins′ .is) total)
+
+pub bit-joined : {m j : ℕ} {w half b t t′ : Sharing} {c₀ c₁ c₂ t₀ t₁ t₂ d₀ d₁ d₂ h₀ h₁ h₂ : List ℕ}
+    → Long 1 c₀ c₁ c₂
+    → Long 1 (midOf 1 (length d₀ - 1) d₀) (midOf 1 (length d₁ - 1) d₁) (midOf 1 (length d₂ - 1) d₂)
+    → parts t ≡ itemsAt 0 (three t₀ t₁ t₂)
+    → parts t′ ≡ itemsAt 1 (three t₀ t₁ t₂)
+    → Joins m (three (bitOf (w .s0) j) 0 0) (three 0 (bitOf (w .s1) j) 0) (parts t) (three c₀ c₁ c₂) half (three d₀ d₁ d₂)
+    → Joins m (parts half) (three 0 0 (bitOf (w .s2) j)) (parts t′) (partsFrom 1 d₀ d₁ d₂) b (three h₀ h₁ h₂)
+    → JoinsBit m j (parts w) (three t₀ t₁ t₂) (three c₀ c₁ c₂) (parts b) (putBack 1 d₀ d₁ d₂ h₀ h₁ h₂)
+bit-joined {m} {j} {w} room room′ items items′ joins joins′ =
+    record { adds = λ weight sum z s holds total. bit-summed m j weight w holds room room′ items items′ joins joins′ total }
+
+-- the weight of the next bit
+doubled : (m k : ℕ) {weight next : ℕ} → weight ≡ 2 ^ k % m → next ≡ (weight + weight) % m → next ≡ 2 ^ (k + 1) % m
+doubled m k is sum =
+    let e : 2 ^ k + 2 ^ k ≡ 2 ^ (k + 1) = omega (arith, pow-add 2 k 1) in
+    rw (sum, is, mod-add-mod, add-mod-mod, e)
+
+-- k bits of w are composed: from the runs t and c to the sum and the runs d
+pub record Reached (m from count : ℕ) (w : Sharing) (t₀ t₁ t₂ c₀ c₁ c₂ : List ℕ) (k weight : ℕ) (sum : Sharing) (d₀ d₁ d₂ : List ℕ) : Type 0 where
+  pub zero : length d₀ ≡ length c₀
+  pub one : length d₁ ≡ length c₁
+  pub two : length d₂ ≡ length c₂
+  pub most : k ≤ count
+  pub weighs : weight ≡ 2 ^ k % m
+  pub range : InRange m sum
+  pub summed : Summed (composeGates wordBit m from k) (tabled (λ i. summingStart (parts w i))) (three t₀ t₁ t₂) (three c₀ c₁ c₂) (parts sum) (three d₀ d₁ d₂)
+
+pub at-start : (m from count : ℕ) {w none : Sharing} {t₀ t₁ t₂ c₀ c₁ c₂ : List ℕ}
+    → 1 < m → parts none ≡ three 0 0 0 → Reached m from count w t₀ t₁ t₂ c₀ c₁ c₂ 0 1 none c₀ c₁ c₂
+at-start m from count {w} {none} {t₀} {t₁} {t₂} {c₀} {c₁} {c₂} wide is =
+    let at : (i : Place) → parts none i ≡ three 0 0 0 i = λ i. ap (λ (x : Place → ℕ). x i) is in
+    record {
+      zero = refl;
+      one = refl;
+      two = refl;
+      most = omega arith;
+      weighs = sym (mod-eq-of-lt wide);
+      range = record { zero = omega (arith, at p0); one = omega (arith, at p1); two = omega (arith, at p2) };
+      summed = rw is (none-summed m from w (three t₀ t₁ t₂) (three c₀ c₁ c₂));
+    }
+
+module _ {m from count : ℕ} {w : Sharing} {t₀ t₁ t₂ c₀ c₁ c₂ : List ℕ} {k weight : ℕ} {sum : Sharing} {d₀ d₁ d₂ : List ℕ}
+    (reached : Reached m from count w t₀ t₁ t₂ c₀ c₁ c₂ k weight sum d₀ d₁ d₂) where
+  -- the next bit
+  pub went-on : {next : ℕ} {b z : Sharing} {e₀ e₁ e₂ : List ℕ}
+      → k < count
+      → next ≡ (weight + weight) % m
+      → InRange m z
+      → length e₀ ≡ length (midOf (2 * k) (length d₀ - 2 * k) d₀)
+      → length e₁ ≡ length (midOf (2 * k) (length d₁ - 2 * k) d₁)
+      → length e₂ ≡ length (midOf (2 * k) (length d₂ - 2 * k) d₂)
+      → JoinsBit m (from + k) (parts w) (partsFrom (2 * k) t₀ t₁ t₂) (partsFrom (2 * k) d₀ d₁ d₂) (parts b) (three e₀ e₁ e₂)
+      → ((i : Place) → parts z i ≡ (parts sum i + weight * parts b i) % m)
+      → Reached m from count w t₀ t₁ t₂ c₀ c₁ c₂ (k + 1) next z
+      (putMid (2 * k) (length d₀ - 2 * k) d₀ e₀) (putMid (2 * k) (length d₁ - 2 * k) d₁ e₁) (putMid (2 * k) (length d₂ - 2 * k) d₂ e₂)
+  went-on {next} {b} {z} {e₀} {e₁} {e₂} more twice range l₀ l₁ l₂ bit total =
+      record {
+        zero = same-len-mid (2 * k) (length d₀ - 2 * k) d₀ e₀ l₀ ∙ reached .zero;
+        one = same-len-mid (2 * k) (length d₁ - 2 * k) d₁ e₁ l₁ ∙ reached .one;
+        two = same-len-mid (2 * k) (length d₂ - 2 * k) d₂ e₂ l₂ ∙ reached .two;
+        most = omega arith;
+        weighs = doubled m k (reached .weighs) twice;
+        range = range;
+        summed = more-summed m from k weight (reached .weighs) (reached .summed) (λ s holds. bit .adds weight (parts sum) (parts z) s holds total);
+      }
+
+  -- after the last
+  pub all-summed : count ≤ k
+      → Summed (composeGates wordBit m from count) (tabled (λ i. summingStart (parts w i))) (three t₀ t₁ t₂) (three c₀ c₁ c₂) (parts sum) (three d₀ d₁ d₂)
+  all-summed done = let e : count ≡ k = omega (arith, reached .most) in rw e (reached .summed)
+
+-- what one turn needs of the runs
+pub record Turn (m from k weight : ℕ) (t₀ t₁ t₂ d₀ d₁ d₂ : List ℕ) : Type 0 where
+  pub place : from + k < 64
+  pub small : weight < m
+  pub masks : Long (2 * k + 2) t₀ t₁ t₂
+  pub items : ItemsBelow m (2 * k + 2) t₀ t₁ t₂
+  pub room : Long (2 * k + 2) d₀ d₁ d₂
+
+pub turn-of : {m from count : ℕ} {w : Sharing} {t₀ t₁ t₂ c₀ c₁ c₂ : List ℕ} {k weight : ℕ} {sum : Sharing} {d₀ d₁ d₂ : List ℕ}
+    → Reached m from count w t₀ t₁ t₂ c₀ c₁ c₂ k weight sum d₀ d₁ d₂
+    → k < count → from + count ≤ 64 → Long (2 * count) t₀ t₁ t₂ → ItemsBelow m (2 * count) t₀ t₁ t₂ → Long (2 * count) c₀ c₁ c₂
+    → Turn m from k weight t₀ t₁ t₂ d₀ d₁ d₂
+turn-of {m} {from} {count} {k = k} h more few masks items room =
+    record {
+      place = omega arith;
+      small = rw (h .weighs) (mod-lt (2 ^ k) (omega (arith, h .range)));
+      masks = long-less (omega arith) masks;
+      items = below-less (omega arith) items;
+      room = record { zero = omega arith; one = omega arith; two = omega arith };
+    }

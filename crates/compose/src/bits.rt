@@ -1,0 +1,221 @@
+// Order 8: shared bits become a number of a ring, two gates a bit.
+ghost use mathlib.Core.Path.{_≡_};
+ghost use Prim.Native.Nat.{_+_, _*_, _%_, _<_, _≤_};
+ghost use Rattle.gate.specs.Places.{InRange, Place, parts, tabled, three};
+ghost use Rattle.ring.specs.Rings.{bitOf, modulusOf, widthOf};
+ghost use Rattle.circuit.specs.Compose.{composeGates, joined, summingStart};
+ghost use Rattle.circuit.specs.Lent.{ItemsBelow, Left, Long};
+ghost use Rattle.circuit.specs.Orders.{composition, wordBit};
+ghost use Rattle.compose.specs.Steps.{Joins};
+ghost use Rattle.compose.specs.Sums.{JoinsBit, Summed};
+use crate::steps::items;
+use gate::Sharing;
+use gate::ring_gate;
+use ring::Ring;
+use ring::bit;
+
+// u + v - 2uv, of one place's shares and the gate's word.
+fn join_share(r: Ring, u: u64, v: u64, uv: u64) -> u64
+    requires left { ⌜ u < modulusOf r ⌝ }
+    requires right { ⌜ v < modulusOf r ⌝ }
+    requires product { ⌜ uv < modulusOf r ⌝ }
+    ensures is { λ h. ⌜ h ≡ joined (modulusOf r) u v uv ⌝ }
+    ensures below { λ h. ⌜ h < modulusOf r ⌝ }
+{
+    r.sub(r.add(u, v), r.add(uv, uv))
+}
+
+// The shares of u XOR v, both of bits, by one gate.
+fn join(
+    r: Ring,
+    u: Sharing,
+    v: Sharing,
+    t: Sharing,
+    c0: &mut [u64],
+    c1: &mut [u64],
+    c2: &mut [u64],
+) -> Sharing
+    requires left { ⌜ InRange (modulusOf r) u ⌝ }
+    requires right { ⌜ InRange (modulusOf r) v ⌝ }
+    requires items { ⌜ InRange (modulusOf r) t ⌝ }
+    requires room { ⌜ Long 1 (now c0) (now c1) (now c2) ⌝ }
+    ensures is { λ h. ⌜ Joins (modulusOf r) (parts u) (parts v) (parts t) (three (now (c0 .entry)) (now (c1 .entry)) (now (c2 .entry))) h (three (now (c0 .exit)) (now (c1 .exit)) (now (c2 .exit))) ⌝ }
+    ensures below { λ h. ⌜ InRange (modulusOf r) h ⌝ }
+{
+    let z = ring_gate(r, u, v, t, c0, c1, c2);
+    let s0 = join_share(r, u.s0, v.s0, z.s0);
+    let s1 = join_share(r, u.s1, v.s1, z.s1);
+    let s2 = join_share(r, u.s2, v.s2, z.s2);
+    Sharing { s0, s1, s2 }
+}
+
+// Sub-share 0 of bit j of w with sub-share 1.
+fn join_first(
+    r: Ring,
+    w: Sharing,
+    j: u64,
+    t: Sharing,
+    c0: &mut [u64],
+    c1: &mut [u64],
+    c2: &mut [u64],
+) -> Sharing
+    requires place { ⌜ j < 64 ⌝ }
+    requires items { ⌜ InRange (modulusOf r) t ⌝ }
+    requires room { ⌜ Long 1 (now c0) (now c1) (now c2) ⌝ }
+    ensures is { λ h. ⌜ Joins (modulusOf r) (three (bitOf (w .s0) j) 0 0) (three 0 (bitOf (w .s1) j) 0) (parts t) (three (now (c0 .entry)) (now (c1 .entry)) (now (c2 .entry))) h (three (now (c0 .exit)) (now (c1 .exit)) (now (c2 .exit))) ⌝ }
+    ensures below { λ h. ⌜ InRange (modulusOf r) h ⌝ }
+{
+    let b0 = bit(w.s0, j);
+    let b1 = bit(w.s1, j);
+    let x = Sharing {
+        s0: b0,
+        s1: 0,
+        s2: 0,
+    };
+    let y = Sharing {
+        s0: 0,
+        s1: b1,
+        s2: 0,
+    };
+    join(r, x, y, t, c0, c1, c2)
+}
+
+// What these give with sub-share 2.
+fn join_last(
+    r: Ring,
+    w: Sharing,
+    j: u64,
+    half: Sharing,
+    t: Sharing,
+    c0: &mut [u64],
+    c1: &mut [u64],
+    c2: &mut [u64],
+) -> Sharing
+    requires place { ⌜ j < 64 ⌝ }
+    requires half { ⌜ InRange (modulusOf r) half ⌝ }
+    requires items { ⌜ InRange (modulusOf r) t ⌝ }
+    requires room { ⌜ Long 1 (now c0) (now c1) (now c2) ⌝ }
+    ensures is { λ h. ⌜ Joins (modulusOf r) (parts half) (three 0 0 (bitOf (w .s2) j)) (parts t) (three (now (c0 .entry)) (now (c1 .entry)) (now (c2 .entry))) h (three (now (c0 .exit)) (now (c1 .exit)) (now (c2 .exit))) ⌝ }
+    ensures below { λ h. ⌜ InRange (modulusOf r) h ⌝ }
+{
+    let b2 = bit(w.s2, j);
+    let y = Sharing {
+        s0: 0,
+        s1: 0,
+        s2: b2,
+    };
+    join(r, half, y, t, c0, c1, c2)
+}
+
+// The ring shares of bit j of w: sub-share 0 with 1, then with 2.
+fn join_bit(
+    r: Ring,
+    w: Sharing,
+    j: u64,
+    m0: &[u64],
+    m1: &[u64],
+    m2: &[u64],
+    c0: &mut [u64],
+    c1: &mut [u64],
+    c2: &mut [u64],
+) -> Sharing
+    requires place { ⌜ j < 64 ⌝ }
+    requires masks { ⌜ Long 2 (now m0) (now m1) (now m2) ⌝ }
+    requires items { ⌜ ItemsBelow (modulusOf r) 2 (now m0) (now m1) (now m2) ⌝ }
+    requires room { ⌜ Long 2 (now c0) (now c1) (now c2) ⌝ }
+    ensures is { λ b. ⌜ JoinsBit (modulusOf r) j (parts w) (three (now (m0 .entry)) (now (m1 .entry)) (now (m2 .entry))) (three (now (c0 .entry)) (now (c1 .entry)) (now (c2 .entry))) (parts b) (three (now (c0 .exit)) (now (c1 .exit)) (now (c2 .exit))) ⌝ }
+    ensures below { λ b. ⌜ InRange (modulusOf r) b ⌝ }
+{
+    let t0 = items(m0, m1, m2, 0);
+    let half = join_first(r, w, j, t0, c0, c1, c2);
+    let t1 = items(m0, m1, m2, 1);
+    join_last(r, w, j, half, t1, &mut c0[1..], &mut c1[1..], &mut c2[1..])
+}
+
+// sum + weight × b.
+fn add_weighted(r: Ring, sum: Sharing, weight: u64, b: Sharing) -> Sharing
+    requires sum { ⌜ InRange (modulusOf r) sum ⌝ }
+    requires weight { ⌜ weight < modulusOf r ⌝ }
+    requires bit { ⌜ InRange (modulusOf r) b ⌝ }
+    ensures is { λ z. ⌜ ((i : Place) → parts z i ≡ (parts sum i + weight * parts b i) % modulusOf r) ⌝ }
+    ensures below { λ z. ⌜ InRange (modulusOf r) z ⌝ }
+{
+    let s0 = r.add(sum.s0, r.mul(weight, b.s0));
+    let s1 = r.add(sum.s1, r.mul(weight, b.s1));
+    let s2 = r.add(sum.s2, r.mul(weight, b.s2));
+    Sharing { s0, s1, s2 }
+}
+
+// The sum of no bits.
+fn no_sum() -> Sharing
+    ensures { λ z. ⌜ parts z ≡ three 0 0 0 ⌝ }
+{
+    Sharing {
+        s0: 0,
+        s1: 0,
+        s2: 0,
+    }
+}
+
+// Bits from, from + 1, .. of w, count of them, with weights 1, 2, 4, .. modulo p.
+pub fn compose_bits(
+    r: Ring,
+    w: Sharing,
+    from: u64,
+    count: u64,
+    m0: &[u64],
+    m1: &[u64],
+    m2: &[u64],
+    c0: &mut [u64],
+    c1: &mut [u64],
+    c2: &mut [u64],
+) -> Sharing
+    requires bits { ⌜ from + count ≤ 64 ⌝ }
+    requires masks { ⌜ Long (2 * count) (now m0) (now m1) (now m2) ⌝ }
+    requires items { ⌜ ItemsBelow (modulusOf r) (2 * count) (now m0) (now m1) (now m2) ⌝ }
+    requires room { ⌜ Long (2 * count) (now c0) (now c1) (now c2) ⌝ }
+    ensures is { λ z. ⌜ Summed (composeGates wordBit (modulusOf r) from count) (tabled (λ i. summingStart (parts w i))) (three (now (m0 .entry)) (now (m1 .entry)) (now (m2 .entry))) (three (now (c0 .entry)) (now (c1 .entry)) (now (c2 .entry))) (parts z) (three (now (c0 .exit)) (now (c1 .exit)) (now (c2 .exit))) ⌝ }
+    ensures below { λ z. ⌜ InRange (modulusOf r) z ⌝ }
+{
+    let mut sum = no_sum();
+    let mut weight = 1;
+    for k in 0..count {
+        let at = (2 * k) as usize;
+        let b = join_bit(
+            r,
+            w,
+            from + k,
+            &m0[at..],
+            &m1[at..],
+            &m2[at..],
+            &mut c0[at..],
+            &mut c1[at..],
+            &mut c2[at..],
+        );
+        sum = add_weighted(r, sum, weight, b);
+        weight = r.add(weight, weight);
+    }
+    sum
+}
+
+// Order 8: all l bits of w.
+pub fn compose(
+    f: Ring,
+    w: Sharing,
+    l: u64,
+    m0: &[u64],
+    m1: &[u64],
+    m2: &[u64],
+    c0: &mut [u64],
+    c1: &mut [u64],
+    c2: &mut [u64],
+) -> Sharing
+    requires bits { ⌜ l ≤ 59 ⌝ }
+    requires masks { ⌜ Long (2 * l) (now m0) (now m1) (now m2) ⌝ }
+    requires items { ⌜ ItemsBelow (modulusOf f) (2 * l) (now m0) (now m1) (now m2) ⌝ }
+    requires room { ⌜ Long (2 * l) (now c0) (now c1) (now c2) ⌝ }
+    ensures is { λ z. ⌜ Left (composition (widthOf f) l) (parts w) (parts w) (three (now (m0 .entry)) (now (m1 .entry)) (now (m2 .entry))) (three (now (c0 .entry)) (now (c1 .entry)) (now (c2 .entry))) z (three (now (c0 .exit)) (now (c1 .exit)) (now (c2 .exit))) ⌝ }
+    ensures below { λ z. ⌜ InRange (modulusOf f) z ⌝ }
+{
+    compose_bits(f, w, 0, l, m0, m1, m2, c0, c1, c2)
+}

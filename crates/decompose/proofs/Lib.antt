@@ -1,0 +1,3 @@
+pub mod WordLaw
+pub mod GateLaw
+pub mod StageLaw
