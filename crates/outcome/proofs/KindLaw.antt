@@ -6,9 +6,9 @@ use mathlib.Core.Path.{_≡_, refl, sym, _∙_}
 use native.Mathlib.Nat.{mod-eq-of-lt}
 use native.Mathlib.Omega.{arith}
 use lib.Dec.{eqb, leb}
-use borrow.Author.Tests.{eqb-true, leb-false, leb-true, not-false}
+use borrow.Author.Tests.{eqb-true, leb-false, leb-true, lt-leb, not-false}
 use Rattle.ring.specs.Modular.{diff}
-use Rattle.ring.specs.Rings.{modulus, ringOf, widthOf}
+use Rattle.ring.specs.Rings.{modulus, quarter, ringOf, widthOf}
 use Rattle.ring.specs.declared.rings.OfWidth.the-variants.{Named, NoRing}
 use Rattle.ring.specs.declared.rings.Ring.{Ring}
 use Rattle.ring.specs.declared.rings.Ring.the-variants.{R13, R31, R61}
@@ -17,13 +17,14 @@ use Rattle.ring.proofs.RangeLaw.{width-ge, width-le}
 use Rattle.gate.specs.Places.{Below, Place, parts, total}
 use Rattle.gate.proofs.PlaceLaw.{each}
 use Rattle.circuit.specs.Bits.{exclusive}
-use Rattle.circuit.specs.Circuits.{result}
+use Rattle.circuit.specs.Circuits.{gatesOf, result}
 use Rattle.circuit.specs.Orders.{addition, composition, conversion, decomposition, multiplication, scaling, shifting}
 use Rattle.value.specs.Values.{lifted, roundedUp}
+use Rattle.value.proofs.Counts.{decompose-count, shift-count}
 use Rattle.value.proofs.ModulusLaw.{modulus-pos}
 use Rattle.value.proofs.Ranges.{add-range, compose-range, convert-range, decompose-range, multiply-range, scale-range, shift-range}
 use Rattle.value.proofs.SumLaw.{total-of}
-use Rattle.value.proofs.Values.{adds, composes, converts-small, decomposes, decomposes-small, multiplies, scales, shifts-small}
+use Rattle.value.proofs.Values.{adds, composes, converts, converts-small, decomposes, decomposes-small, multiplies, scales, shifts, shifts-small}
 use Rattle.machine.specs.Checks.{aNumber, check, isBits, isEmpty, isNumber, noRing, twoNumbers}
 use Rattle.machine.specs.Registers.{Kind, bits, countAt, empty, number, widthAt}
 use Rattle.machine.specs.Step.{dealtShares}
@@ -70,6 +71,10 @@ ring-of e = go (eqb e 13) (eqb e 31) (eqb e 61) (eqb-true e 13) (eqb-true e 31) 
     go false true c f g h k = record { ring = R31; is = refl; width = sym (g refl) }
     go false false true f g h k = record { ring = R61; is = refl; width = sym (h refl) }
     go false false false f g h k = absurd (true≢false k)
+
+-- 0 is below the modulus of every ring
+pub zero-below : (e : ℕ) → noRing (ringOf e) ≡ false → leb (modulus e) 0 ≡ false
+zero-below e h = lt-leb (modulus e) 0 (positive (ring-of e h))
 
 -- 1: the number dealt
 module _ (e v r₀ r₁ : ℕ) (h : Passed (check (noRing (ringOf e)) 5 ∷ check (leb (modulus e) v) 7 ∷ [])) where
@@ -141,7 +146,7 @@ module _ (k : Kind) (c : ℕ) (h : Passed (aNumber k ++ (check (leb (modulus (wi
       (scales (modulus (widthAt k)) c (positive scaled) x y T)
 
 -- 5: a number into l bits
-module _ (k : Kind) (l : ℕ) (h : Passed (aNumber k ++ (check (not (leb 1 l && leb l (widthAt k - 2))) 7 ∷ []))) (x y : Place → ℕ) (T : Place → List ℕ) where
+module _ (k : Kind) (l : ℕ) (h : Passed (aNumber k ++ (check (not (leb 1 l && leb l (widthAt k - 2))) 7 ∷ []))) where
   cut : NumberOf k (widthAt k)
   cut = a-number k (h .0) (h .1 .0)
 
@@ -150,23 +155,27 @@ module _ (k : Kind) (l : ℕ) (h : Passed (aNumber k ++ (check (not (leb 1 l && 
       let tests = and-eq-true-iff (leb 1 l) (leb l (widthAt k - 2)) .0 (not-false _ (h .1 .1 .0)) in
       (leb-true _ _ (tests .0), leb-true _ _ (tests .1))
 
-  pub decompose-fits : Fits (bits l) (result (decomposition (widthAt k) l) x y T)
-  decompose-fits =
-      record {
-        some = count-in-range .0;
-        few = omega (arith, count-in-range, at-most cut);
-        below = decompose-range (widthAt k) l x y T;
-      }
+  pub decompose-gates : gatesOf (decomposition (widthAt k) l) ≡ 3 * l + 1
+  decompose-gates = decompose-count (widthAt k) l (count-in-range .0)
 
-  pub decompose-value-all : exclusive (result (decomposition (widthAt k) l) x y T) ≡ roundedUp (lifted (widthAt k) x) % 2 ^ l
-  decompose-value-all = decomposes (widthAt k) l (count-in-range .0) x y T
+  module _ (x y : Place → ℕ) (T : Place → List ℕ) where
+    pub decompose-fits : Fits (bits l) (result (decomposition (widthAt k) l) x y T)
+    decompose-fits =
+        record {
+          some = count-in-range .0;
+          few = omega (arith, count-in-range, at-most cut);
+          below = decompose-range (widthAt k) l x y T;
+        }
 
-  pub decompose-value : 4 * valueAs k x < modulus (widthAt k)
-      → exclusive (result (decomposition (widthAt k) l) x y T) ≡ valueAs k x % 2 ^ l
-  decompose-value small =
-      rw (number-value cut x)
-      (decomposes-small (widthAt k) l (count-in-range .0) (omega (arith, count-in-range)) x y T
-      (rw (number-value cut x) at small))
+    pub decompose-value-all : exclusive (result (decomposition (widthAt k) l) x y T) ≡ roundedUp (lifted (widthAt k) x) % 2 ^ l
+    decompose-value-all = decomposes (widthAt k) l (count-in-range .0) x y T
+
+    pub decompose-value : 4 * valueAs k x < modulus (widthAt k)
+        → exclusive (result (decomposition (widthAt k) l) x y T) ≡ valueAs k x % 2 ^ l
+    decompose-value small =
+        rw (number-value cut x)
+        (decomposes-small (widthAt k) l (count-in-range .0) (omega (arith, count-in-range)) x y T
+        (rw (number-value cut x) at small))
 
 -- 6: a number into the ring of width f
 module _ (k : Kind) (f : ℕ) (h : Passed (aNumber k ++ (check (noRing (ringOf f)) 5 ∷ []))) (x y : Place → ℕ) (T : Place → List ℕ) where
@@ -179,6 +188,11 @@ module _ (k : Kind) (f : ℕ) (h : Passed (aNumber k ++ (check (noRing (ringOf f
   pub convert-fits : Fits (numberKind (ringOf f)) (result (conversion (widthAt k) f) x y T)
   convert-fits = number-fits into (convert-range (widthAt k) f (omega (arith, at-least into)) x y T)
 
+  pub convert-value-all : valueAs (numberKind (ringOf f)) (result (conversion (widthAt k) f) x y T)
+      ≡ quarter f * diff (modulus f) (lifted (widthAt k) x) (modulus (widthAt k) * diff 4 0 (lifted (widthAt k) x)) % modulus f
+  convert-value-all =
+      number-value into (result (conversion (widthAt k) f) x y T) ∙ converts (widthAt k) f (omega (arith, at-least into)) x y T
+
   pub convert-value : 4 * valueAs k x < modulus (widthAt k)
       → valueAs (numberKind (ringOf f)) (result (conversion (widthAt k) f) x y T) ≡ valueAs k x % modulus f
   convert-value small =
@@ -187,18 +201,31 @@ module _ (k : Kind) (f : ℕ) (h : Passed (aNumber k ++ (check (noRing (ringOf f
       (rw (number-value from x) at small))
 
 -- 7: a number, s bits down
-module _ (k : Kind) (s : ℕ) (h : Passed (aNumber k ++ (check (not (leb s (widthAt k - 3))) 7 ∷ []))) (x y : Place → ℕ) (T : Place → List ℕ) where
+module _ (k : Kind) (s : ℕ) (h : Passed (aNumber k ++ (check (not (leb s (widthAt k - 3))) 7 ∷ []))) where
   shifted : NumberOf k (widthAt k)
   shifted = a-number k (h .0) (h .1 .0)
 
-  pub shift-fits : Fits k (result (shifting (widthAt k) s) x y T)
-  shift-fits = number-fits shifted (shift-range (widthAt k) s (omega (arith, at-least shifted)) x y T)
+  down-in-range : s ≤ widthAt k - 3
+  down-in-range = leb-true _ _ (not-false _ (h .1 .1 .0))
 
-  pub shift-value : 4 * valueAs k x < modulus (widthAt k) → valueAs k (result (shifting (widthAt k) s) x y T) ≡ valueAs k x / 2 ^ s
-  shift-value small =
-      rw (number-value shifted (result (shifting (widthAt k) s) x y T), number-value shifted x)
-      (shifts-small (widthAt k) s (omega (arith, at-least shifted)) (leb-true _ _ (not-false _ (h .1 .1 .0))) x y T
-      (rw (number-value shifted x) at small))
+  pub shift-gates : gatesOf (shifting (widthAt k) s) ≡ 3 * (widthAt k - 2) + 1 + 2 * (widthAt k - 2 - s)
+  shift-gates = shift-count (widthAt k) s (omega (arith, at-least shifted))
+
+  module _ (x y : Place → ℕ) (T : Place → List ℕ) where
+    pub shift-fits : Fits k (result (shifting (widthAt k) s) x y T)
+    shift-fits = number-fits shifted (shift-range (widthAt k) s (omega (arith, at-least shifted)) x y T)
+
+    pub shift-value-all : valueAs k (result (shifting (widthAt k) s) x y T)
+        ≡ roundedUp (lifted (widthAt k) x) % 2 ^ (widthAt k - 2) / 2 ^ s
+    shift-value-all =
+        number-value shifted (result (shifting (widthAt k) s) x y T)
+        ∙ shifts (widthAt k) s (omega (arith, at-least shifted)) down-in-range x y T
+
+    pub shift-value : 4 * valueAs k x < modulus (widthAt k) → valueAs k (result (shifting (widthAt k) s) x y T) ≡ valueAs k x / 2 ^ s
+    shift-value small =
+        rw (number-value shifted (result (shifting (widthAt k) s) x y T), number-value shifted x)
+        (shifts-small (widthAt k) s (omega (arith, at-least shifted)) down-in-range x y T
+        (rw (number-value shifted x) at small))
 
 -- 8: bits into the ring of width f
 module _ (k : Kind) (f : ℕ)

@@ -5,3 +5,4 @@ pub mod WorkLaw
 pub mod ChannelLaw
 pub mod Theorems
 pub mod Same
+pub mod Local

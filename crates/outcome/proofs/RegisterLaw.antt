@@ -23,7 +23,7 @@ use Rattle.outcome.specs.Theorems.{valueAt}
 abbrev pub sharesAt : Machine → ℕ → Place → ℕ
 sharesAt m k = parts (sharesOf (registerAt m k))
 
-kind-at : (m : Machine) (k : ℕ) → kindAt (publicOf m) k ≡ kindOf (registerAt m k)
+pub kind-at : (m : Machine) (k : ℕ) → kindAt (publicOf m) k ≡ kindOf (registerAt m k)
 unfolding registerAt
 kind-at m k = List·getD-map (λ (s : Slot). kindOf (s .reg)) (m .slots) k (slot Empty)
 

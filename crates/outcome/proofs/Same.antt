@@ -8,7 +8,7 @@ use borrow.Author.Tests.{eqb-false, eqb-true}
 use Rattle.gate.specs.Places.{Place}
 use Rattle.machine.specs.Checks.{Tapes, leftOf}
 use Rattle.machine.specs.Registers.{Public, kindAt, publicOf, registerAt, widthAt}
-use Rattle.machine.specs.Step.{Outcome, opened, step, valueOf}
+use Rattle.machine.specs.Step.{opened, step, valueOf}
 use Rattle.machine.specs.Work.{workOf}
 use Rattle.machine.specs.declared.orders.Order.{Order}
 use Rattle.machine.specs.declared.orders.Order.the-variants.{Add, Compose, Convert, Deal, Decompose, Multiply, Open, Scale, Shift}
@@ -17,20 +17,13 @@ use Rattle.job.specs.Jobs.{Small, TakesSmall}
 use Rattle.outcome.specs.Same.{KeepsGood, KeepsSame, Same}
 use Rattle.outcome.specs.Theorems.{destination, valueAt}
 use Rattle.outcome.proofs.CheckLaw.{accepted}
-use Rattle.outcome.proofs.Theorems.{add-leaves, compose-leaves, convert-leaves, deal-leaves, decompose-leaves, keeps-sound, multiply-leaves, others-stand, scale-leaves, shift-leaves}
-use Rattle.outcome.proofs.WorkLaw.{public-after, publicBy, slots-kept}
+use Rattle.outcome.proofs.Theorems.{add-leaves, compose-leaves, convert-leaves, deal-leaves, decompose-leaves, keeps-sound, multiply-leaves, others-stand, scale-leaves, shift-leaves, step-public}
+use Rattle.outcome.proofs.WorkLaw.{publicBy, slots-kept}
 
 pub keeps-good : KeepsGood
 keeps-good o m T c good ok =
     let kept = slots-kept m (leftOf (publicOf m) T) c (workOf o (publicOf m)) in
     record { sound = keeps-sound o m T c ok; slots = rw (accepted o m T c ok .done) (kept ∙ good .slots) }
-
--- what is public after an accepted order is a function of what was public
-step-public : (o : Order) (m : Machine) (T : Tapes) (c : Place → List ℕ) → step o m T c .refusal ≡ 0
-    → publicOf (step o m T c .machine) ≡ publicBy (workOf o (publicOf m)) (publicOf m)
-step-public o m T c ok =
-    ap (λ (s : Outcome). publicOf (s .machine)) (accepted o m T c ok .done)
-    ∙ public-after m (leftOf (publicOf m) T) c (workOf o (publicOf m))
 
 -- an opening writes no register
 opening-stands : (x : ℕ) (m : Machine) (T : Tapes) (c : Place → List ℕ) → step (Open x) m T c .refusal ≡ 0

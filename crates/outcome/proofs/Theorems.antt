@@ -1,27 +1,33 @@
 -- Demands 1 and 2 (specs/Theorems.antt).
 use Prim.Native.Nat.{ℕ, _<_}
-use mathlib.Core.Bool.{false}
+use mathlib.Core.Bool.{Bool, cond, false, true, true≢false}
 use mathlib.Core.List.{List, [], _∷_, _++_}
-use mathlib.Core.Path.{_≡_, refl, _∙_}
+use mathlib.Core.Path.{_≡_, ap, refl, _∙_}
 use native.Mathlib.Omega.{arith}
-use lib.Dec.{ltb}
-use lib.ListN.{length}
+use lib.Dec.{leb, ltb}
+use lib.ListN.{List·getD-eq-default, getD, length, length-map, set}
+use lib.Seq.{getD-set-same}
 use borrow.Author.Tests.{ltb-false}
-use Rattle.ring.specs.Rings.{ringOf}
+use Rattle.ring.specs.Rings.{modulus, ringOf}
 use Rattle.gate.specs.Places.{Place}
-use Rattle.machine.specs.Checks.{Check, Tapes, anyAbove15, badItem, check, firstMet, leftOf, publicChecks}
-use Rattle.machine.specs.Registers.{Kind, bits, kindAt, publicOf, registerAt}
-use Rattle.machine.specs.Step.{checks, lengthsOf, opened, step}
-use Rattle.machine.specs.Work.{numberKind, workOf}
+use Rattle.circuit.specs.Orders.{addition, multiplication, scaling}
+use Rattle.value.proofs.Counts.{compose-count, convert-count}
+use Rattle.machine.specs.Checks.{Check, Lengths, Tapes, anyAbove15, badItem, check, firstMet, kindChecks, leftOf, lengthChecks, named, noRing, publicChecks}
+use Rattle.machine.specs.Registers.{Kind, Public, bits, countAt, empty, kindAt, kindOf, publicOf, registerAt, widthAt}
+use Rattle.machine.specs.Step.{Outcome, checks, computed, dealt, lengthsOf, opened, performed, step}
+use Rattle.machine.specs.Work.{deals, numberKind, workOf}
 use Rattle.machine.specs.declared.orders.Order.{Order}
 use Rattle.machine.specs.declared.orders.Order.the-variants.{Add, Compose, Convert, Deal, Decompose, Multiply, Open, Scale, Shift}
 use Rattle.machine.specs.declared.registers.Machine.{Machine}
-use Rattle.outcome.specs.Theorems.{AddLeaves, ChannelsStand, ComposeLeaves, ConvertLeaves, DealLeaves, DecomposeLeaves, DecomposeLeavesAll, KeepsSound, MultiplyLeaves, OpensValue, OthersStand, PositionsRise, PublicRefusal, ScaleLeaves, ShiftLeaves, Unchanged, wordsOf}
+use Rattle.machine.specs.declared.registers.Slot.{Slot}
+use Rattle.party.specs.Steps.{gatesIn, withoutNumber}
+use Rattle.job.specs.Jobs.{RefusedNumber, isOpening}
+use Rattle.outcome.specs.Theorems.{AddLeaves, ChannelsStand, ComposeLeaves, ConvertLeaves, ConvertLeavesAll, DealLeaves, DecomposeLeaves, DecomposeLeavesAll, GatesAnswered, GatesCounted, KeepsSound, KindLeft, MultiplyLeaves, OpensValue, OthersStand, PositionsRise, PublicFields, PublicRefusal, ScaleLeaves, ShiftLeaves, ShiftLeavesAll, Unchanged, ValueAnswered, destination, gatesFor, kindLeft, wordsOf}
 use Rattle.outcome.proofs.ChannelLaw.{Stands, channels-kept, stands}
-use Rattle.outcome.proofs.CheckLaw.{Accepted, accepted, either, last-aside, neither, refusal-is, refused-is}
-use Rattle.outcome.proofs.KindLaw.{add-fits, add-value, compose-fits, compose-value, convert-fits, convert-value, deal-fits, deal-value, decompose-fits, decompose-value, decompose-value-all, multiply-fits, multiply-value, scale-fits, scale-value, shift-fits, shift-value}
+use Rattle.outcome.proofs.CheckLaw.{Accepted, Passed, accepted, either, last-aside, neither, refusal-is, refused-is}
+use Rattle.outcome.proofs.KindLaw.{add-fits, add-value, compose-fits, compose-value, convert-fits, convert-value, convert-value-all, deal-fits, deal-value, decompose-fits, decompose-gates, decompose-value, decompose-value-all, multiply-fits, multiply-value, scale-fits, scale-value, shift-fits, shift-gates, shift-value, shift-value-all, zero-below}
 use Rattle.outcome.proofs.RegisterLaw.{register-fits, sharesAt, sound-parts, value-at}
-use Rattle.outcome.proofs.WorkLaw.{FitsIn, computed-leaves, dealt-leaves, light, others-kept, performed-sound, rises, target-is}
+use Rattle.outcome.proofs.WorkLaw.{FitsIn, computed-leaves, dealt-leaves, gates-are, light, others-kept, performed-sound, public-after, publicBy, rises, target-is}
 
 pub unchanged : Unchanged
 unchanged = refused-is
@@ -34,6 +40,34 @@ public-refusal o m T c is-sound not-item =
     let item : Check = check (badItem (workOf o p) (leftOf p T)) 10 in
     let first : step o m T c .refusal ≡ firstMet (public ++ (item ∷ [])) = refusal-is o m T c ∙ rw is-sound in
     first ∙ last-aside public (item .met) 10 (λ e. not-item (first ∙ e))
+
+number-apart : (a b x y : Bool) (rest : ℕ) → (b ≡ false → y ≡ false) → (cond a 2 (cond b 5 (cond x 7 rest)) ≡ 7 → ⊥)
+    → cond a 2 (cond b 5 (cond x 7 rest)) ≡ cond a 2 (cond b 5 (cond y 7 rest))
+number-apart true b x y rest h p = refl
+number-apart false true x y rest h p = refl
+number-apart false false true y rest h p = absurd (p refl)
+number-apart false false false y rest h p = rw (h refl)
+
+-- a deal not refused for its number: 0 in its place is below p too, wherever 5 does not refuse
+number-aside : (o : Order) (p : Public) (len : Lengths) → (RefusedNumber o (firstMet (publicChecks o p len)) → ⊥)
+    → firstMet (publicChecks o p len) ≡ firstMet (publicChecks (withoutNumber o) p len)
+unfolding publicChecks firstMet
+number-aside (Deal d e v) p len h =
+    number-apart (anyAbove15 (d ∷ [])) (noRing (ringOf e)) (leb (modulus e) v) (leb (modulus e) 0)
+    (firstMet (lengthChecks (deals d e v) p len)) (zero-below e) h
+number-aside (Add d x y) p len h = refl
+number-aside (Scale d x c) p len h = refl
+number-aside (Multiply d x y) p len h = refl
+number-aside (Decompose d x l) p len h = refl
+number-aside (Convert d x f) p len h = refl
+number-aside (Shift d x s) p len h = refl
+number-aside (Compose d x f) p len h = refl
+number-aside (Open x) p len h = refl
+
+pub public-fields : PublicFields
+public-fields o m T c is-sound not-item not-number =
+    let public = public-refusal o m T c is-sound not-item in
+    public ∙ number-aside o (publicOf m) (lengthsOf T c) (λ h. not-number (rw public h))
 
 -- the kind of register k, and what is left of the mask tapes
 abbrev kind : Machine → ℕ → Kind
@@ -65,6 +99,24 @@ keeps-sound o m T c ok =
 pub positions-rise : PositionsRise
 positions-rise o m T c ok = rw (accepted o m T c ok .done) (rises m (leftOf (publicOf m) T) c (workOf o (publicOf m)))
 
+pub gates-answered : GatesAnswered
+gates-answered o m T c ok = rw (accepted o m T c ok .done) (gates-are m (leftOf (publicOf m) T) c (workOf o (publicOf m)))
+
+counted : (o : Order) (p : Public) → Passed (kindChecks o p) → gatesIn (workOf o p) ≡ gatesFor o p
+unfolding addition scaling multiplication
+counted (Deal d e v) p h = refl
+counted (Add d x y) p h = refl
+counted (Scale d x c) p h = refl
+counted (Multiply d x y) p h = refl
+counted (Decompose d x l) p h = decompose-gates (kindAt p x) l h
+counted (Convert d x f) p h = convert-count (widthAt (kindAt p x)) f
+counted (Shift d x s) p h = shift-gates (kindAt p x) s h
+counted (Compose d x f) p h = compose-count f (countAt (kindAt p x))
+counted (Open x) p h = refl
+
+pub gates-counted : GatesCounted
+gates-counted o m T c ok = gates-answered o m T c ok ∙ counted o (publicOf m) (accepted o m T c ok .kinds)
+
 pub others-stand : OthersStand
 others-stand o m T c k other =
     either o m T c (λ s. registerAt (s .machine) k ≡ registerAt m k)
@@ -78,73 +130,131 @@ channels-stand o m T c i =
     (λ a. channels-kept m T (leftOf (publicOf m) T) c i (workOf o (publicOf m)) (light o (publicOf m)) (a .lengths))
     (stands (m .«channels_at») words (c i))
 
+no-value : (o : Order) (m : Machine) (left : Tapes) (c : Place → List ℕ) → isOpening o ≡ false
+    → performed (workOf o (publicOf m)) m left c .value ≡ 0
+unfolding dealt computed
+no-value (Deal d e v) m left c h = refl
+no-value (Add d x y) m left c h = refl
+no-value (Scale d x k) m left c h = refl
+no-value (Multiply d x y) m left c h = refl
+no-value (Decompose d x l) m left c h = refl
+no-value (Convert d x f) m left c h = refl
+no-value (Shift d x s) m left c h = refl
+no-value (Compose d x f) m left c h = refl
+no-value (Open x) m left c h = absurd (true≢false h)
+
+pub value-answered : ValueAnswered
+value-answered o m T c h =
+    either o m T c (λ s. s .value ≡ 0) (λ a. no-value o m (leftOf (publicOf m) T) c h) refl
+
 pub opens-value : OpensValue
 unfolding opened
 opens-value x m T c ok = rw (accepted (Open x) m T c ok .done)
 
 -- a register that an accepted order names is one of the sixteen
-in-reach : (d : ℕ) (ks : List ℕ) (m : Machine) → anyAbove15 (d ∷ ks) ≡ false → length (m .slots) ≡ 16 → d < length (m .slots)
+in-reach : (d : ℕ) (ks : List ℕ) (n : ℕ) → anyAbove15 (d ∷ ks) ≡ false → n ≡ 16 → d < n
 unfolding anyAbove15
-in-reach d ks m h sixteen = omega (arith, ltb-false 15 d (neither (ltb 15 d) (anyAbove15 ks) h .0))
+in-reach d ks n h sixteen = omega (arith, ltb-false 15 d (neither (ltb 15 d) (anyAbove15 ks) h .0))
+
+-- what is public after an accepted order is a function of what was public
+pub step-public : (o : Order) (m : Machine) (T : Tapes) (c : Place → List ℕ) → step o m T c .refusal ≡ 0
+    → publicOf (step o m T c .machine) ≡ publicBy (workOf o (publicOf m)) (publicOf m)
+step-public o m T c ok =
+    ap (λ (s : Outcome). publicOf (s .machine)) (accepted o m T c ok .done)
+    ∙ public-after m (leftOf (publicOf m) T) c (workOf o (publicOf m))
+
+module _ (p : Public) (sixteen : length (p .kinds) ≡ 16) where
+  kind-put : (d : ℕ) (ks : List ℕ) (kind : Kind) → anyAbove15 (d ∷ ks) ≡ false → getD (set (p .kinds) d kind) d empty ≡ kind
+  kind-put d ks kind h = getD-set-same (p .kinds) d kind empty (in-reach d ks _ h sixteen)
+
+  kind-by : (o : Order) → anyAbove15 (named o) ≡ false → kindAt (publicBy (workOf o p) p) (destination o) ≡ kindLeft (workOf o p)
+  kind-by (Deal d e v) h = kind-put d [] (numberKind (ringOf e)) h
+  kind-by (Add d x y) h = kind-put d (x ∷ y ∷ []) (kindAt p x) h
+  kind-by (Scale d x c) h = kind-put d (x ∷ []) (kindAt p x) h
+  kind-by (Multiply d x y) h = kind-put d (x ∷ y ∷ []) (kindAt p x) h
+  kind-by (Decompose d x l) h = kind-put d (x ∷ []) (bits l) h
+  kind-by (Convert d x f) h = kind-put d (x ∷ []) (numberKind (ringOf f)) h
+  kind-by (Shift d x s) h = kind-put d (x ∷ []) (kindAt p x) h
+  kind-by (Compose d x f) h = kind-put d (x ∷ []) (numberKind (ringOf f)) h
+  kind-by (Open x) h = List·getD-eq-default (p .kinds) empty (omega arith)
+
+pub kind-left : KindLeft
+kind-left o m T c ok sixteen =
+    ap (λ (p : Public). kindAt p (destination o)) (step-public o m T c ok)
+    ∙ kind-by (publicOf m) (length-map (m .slots) (λ (s : Slot). kindOf (s .reg)) ∙ sixteen) o (accepted o m T c ok .registers)
 
 pub deal-leaves : DealLeaves
 deal-leaves d e v m T c ok sixteen =
     let a = accepted (Deal d e v) m T c ok in
     rw (a .done)
-    (dealt-leaves m (leftOf (publicOf m) T) c d e v (in-reach d [] m (a .registers) sixteen) ∙ deal-value e v _ _ (a .kinds))
+    (dealt-leaves m (leftOf (publicOf m) T) c d e v (in-reach d [] _ (a .registers) sixteen) ∙ deal-value e v _ _ (a .kinds))
 
 pub add-leaves : AddLeaves
 add-leaves d x y m T c ok sixteen =
     let a = accepted (Add d x y) m T c ok in
     rw (a .done, value-at m x, value-at m y)
-    (computed-leaves m (leftOf (publicOf m) T) c _ d x y (kind m x) (in-reach d (x ∷ y ∷ []) m (a .registers) sixteen)
+    (computed-leaves m (leftOf (publicOf m) T) c _ d x y (kind m x) (in-reach d (x ∷ y ∷ []) _ (a .registers) sixteen)
     ∙ add-value (kind m x) (kind m y) (a .kinds) (sharesAt m x) (sharesAt m y) (masks m T))
 
 pub scale-leaves : ScaleLeaves
 scale-leaves d x k m T c ok sixteen =
     let a = accepted (Scale d x k) m T c ok in
     rw (a .done, value-at m x)
-    (computed-leaves m (leftOf (publicOf m) T) c _ d x x (kind m x) (in-reach d (x ∷ []) m (a .registers) sixteen)
+    (computed-leaves m (leftOf (publicOf m) T) c _ d x x (kind m x) (in-reach d (x ∷ []) _ (a .registers) sixteen)
     ∙ scale-value (kind m x) k (a .kinds) (sharesAt m x) (sharesAt m x) (masks m T))
 
 pub multiply-leaves : MultiplyLeaves
 multiply-leaves d x y m T c ok sixteen =
     let a = accepted (Multiply d x y) m T c ok in
     rw (a .done, value-at m x, value-at m y)
-    (computed-leaves m (leftOf (publicOf m) T) c _ d x y (kind m x) (in-reach d (x ∷ y ∷ []) m (a .registers) sixteen)
+    (computed-leaves m (leftOf (publicOf m) T) c _ d x y (kind m x) (in-reach d (x ∷ y ∷ []) _ (a .registers) sixteen)
     ∙ multiply-value (kind m x) (kind m y) (a .kinds) (sharesAt m x) (sharesAt m y) (masks m T))
 
 pub decompose-leaves : DecomposeLeaves
 decompose-leaves d x l m T c ok sixteen small =
     let a = accepted (Decompose d x l) m T c ok in
     rw (a .done, value-at m x)
-    (computed-leaves m (leftOf (publicOf m) T) c _ d x x (bits l) (in-reach d (x ∷ []) m (a .registers) sixteen)
+    (computed-leaves m (leftOf (publicOf m) T) c _ d x x (bits l) (in-reach d (x ∷ []) _ (a .registers) sixteen)
     ∙ decompose-value (kind m x) l (a .kinds) (sharesAt m x) (sharesAt m x) (masks m T) (rw (value-at m x) at small))
 
 pub convert-leaves : ConvertLeaves
 convert-leaves d x f m T c ok sixteen small =
     let a = accepted (Convert d x f) m T c ok in
     rw (a .done, value-at m x)
-    (computed-leaves m (leftOf (publicOf m) T) c _ d x x (numberKind (ringOf f)) (in-reach d (x ∷ []) m (a .registers) sixteen)
+    (computed-leaves m (leftOf (publicOf m) T) c _ d x x (numberKind (ringOf f)) (in-reach d (x ∷ []) _ (a .registers) sixteen)
     ∙ convert-value (kind m x) f (a .kinds) (sharesAt m x) (sharesAt m x) (masks m T) (rw (value-at m x) at small))
 
 pub shift-leaves : ShiftLeaves
 shift-leaves d x s m T c ok sixteen small =
     let a = accepted (Shift d x s) m T c ok in
     rw (a .done, value-at m x)
-    (computed-leaves m (leftOf (publicOf m) T) c _ d x x (kind m x) (in-reach d (x ∷ []) m (a .registers) sixteen)
+    (computed-leaves m (leftOf (publicOf m) T) c _ d x x (kind m x) (in-reach d (x ∷ []) _ (a .registers) sixteen)
     ∙ shift-value (kind m x) s (a .kinds) (sharesAt m x) (sharesAt m x) (masks m T) (rw (value-at m x) at small))
 
 pub compose-leaves : ComposeLeaves
 compose-leaves d x f m T c ok sixteen =
     let a = accepted (Compose d x f) m T c ok in
     rw (a .done, value-at m x)
-    (computed-leaves m (leftOf (publicOf m) T) c _ d x x (numberKind (ringOf f)) (in-reach d (x ∷ []) m (a .registers) sixteen)
+    (computed-leaves m (leftOf (publicOf m) T) c _ d x x (numberKind (ringOf f)) (in-reach d (x ∷ []) _ (a .registers) sixteen)
     ∙ compose-value (kind m x) f (a .kinds) (sharesAt m x) (sharesAt m x) (masks m T) (register-fits m x (a .sound)))
 
 pub decompose-leaves-all : DecomposeLeavesAll
 decompose-leaves-all d x l m T c ok sixteen =
     let a = accepted (Decompose d x l) m T c ok in
     rw (a .done)
-    (computed-leaves m (leftOf (publicOf m) T) c _ d x x (bits l) (in-reach d (x ∷ []) m (a .registers) sixteen)
+    (computed-leaves m (leftOf (publicOf m) T) c _ d x x (bits l) (in-reach d (x ∷ []) _ (a .registers) sixteen)
     ∙ decompose-value-all (kind m x) l (a .kinds) (sharesAt m x) (sharesAt m x) (masks m T))
+
+pub convert-leaves-all : ConvertLeavesAll
+convert-leaves-all d x f m T c ok sixteen =
+    let a = accepted (Convert d x f) m T c ok in
+    rw (a .done)
+    (computed-leaves m (leftOf (publicOf m) T) c _ d x x (numberKind (ringOf f)) (in-reach d (x ∷ []) _ (a .registers) sixteen)
+    ∙ convert-value-all (kind m x) f (a .kinds) (sharesAt m x) (sharesAt m x) (masks m T))
+
+pub shift-leaves-all : ShiftLeavesAll
+shift-leaves-all d x s m T c ok sixteen =
+    let a = accepted (Shift d x s) m T c ok in
+    rw (a .done)
+    (computed-leaves m (leftOf (publicOf m) T) c _ d x x (kind m x) (in-reach d (x ∷ []) _ (a .registers) sixteen)
+    ∙ shift-value-all (kind m x) s (a .kinds) (sharesAt m x) (sharesAt m x) (masks m T))

@@ -20,6 +20,7 @@ use Rattle.machine.specs.declared.orders.Order.{Order}
 use Rattle.machine.specs.declared.orders.Order.the-variants.{Add, Compose, Convert, Deal, Decompose, Multiply, Open, Scale, Shift}
 use Rattle.machine.specs.declared.registers.Machine.{Machine}
 use Rattle.party.specs.Own.{ownComputed, ownPerformed, publicAfter}
+use Rattle.party.specs.Steps.{gatesIn}
 use Rattle.party.proofs.Local.{step-local}
 use Rattle.outcome.specs.Theorems.{destination, itemsOf, valueAt, wordsOf}
 use Rattle.outcome.proofs.CheckLaw.{Passed, neither}
@@ -111,6 +112,13 @@ module _ (m : Machine) (left : Tapes) (c : Place → List ℕ) where
   rises (adjusts C d x y kind) = (refl, refl, refl)
   rises (computes C d x y kind) = (refl, refl, refl)
   rises (opens x) = (refl, refl, refl)
+
+  pub gates-are : (w : Work) → performed w m left c .gates ≡ gatesIn w
+  unfolding dealt computed opened
+  gates-are (deals d e v) = refl
+  gates-are (adjusts C d x y kind) = refl
+  gates-are (computes C d x y kind) = refl
+  gates-are (opens x) = refl
 
   pub slots-kept : (w : Work) → length (performed w m left c .machine .slots) ≡ length (m .slots)
   unfolding dealt computed opened withRegister

@@ -13,7 +13,7 @@ use Rattle.machine.specs.declared.registers.Machine.{Machine}
 use Rattle.job.specs.Jobs.{TakesSmall}
 use Rattle.outcome.specs.Theorems.{valueAt}
 
--- a sound record of sixteen registers
+-- a sound record of sixteen registers: the array's type gives their number
 pub record Good (m : Machine) : Type 0 where
   pub sound : sound m ≡ true
   pub slots : length (m .slots) ≡ 16

@@ -1,24 +1,23 @@
 -- Demands 1 and 2 of the definition of `step`, for every order, record, tape and channel. Proofs: proofs/.
-use Prim.Native.Nat.{ℕ, _+_, _*_, _/_, _%_, _≤_, _<_, _^_}
-use mathlib.Core.Bool.{true}
+use Prim.Native.Nat.{ℕ, _+_, _*_, _-_, _/_, _%_, _≤_, _<_, _^_}
+use mathlib.Core.Bool.{false, true}
 use mathlib.Core.List.{List}
 use mathlib.Core.Path.{_≡_}
 use lib.ListN.{getD, length}
-use Rattle.ring.specs.Rings.{modulus, modulusOf, ringOf}
-use Rattle.ring.specs.declared.rings.OfWidth.the-variants.{Named}
-use Rattle.ring.specs.declared.rings.Ring.{Ring}
+use Rattle.ring.specs.Modular.{diff}
+use Rattle.ring.specs.Rings.{modulus, quarter, ringOf}
 use Rattle.gate.specs.Places.{Place, parts}
-use Rattle.circuit.specs.Circuits.{Circuit, gatesOf}
+use Rattle.circuit.specs.Circuits.{gatesOf}
 use Rattle.value.specs.Values.{lifted, roundedUp}
-use Rattle.machine.specs.Checks.{Tapes, badItem, firstMet, leftOf, publicChecks}
-use Rattle.machine.specs.Registers.{Kind, bits, kindAt, kindOf, number, publicOf, registerAt, sharesOf, sound, widthAt}
-use Rattle.machine.specs.Step.{Outcome, lengthsOf, refused, step, valueOf}
-use Rattle.machine.specs.Work.{Work, adjusts, computes, deals, opens, workOf}
+use Rattle.machine.specs.Checks.{Tapes, firstMet, publicChecks}
+use Rattle.machine.specs.Registers.{Kind, Public, countAt, empty, kindAt, publicOf, registerAt, sharesOf, sound, widthAt}
+use Rattle.machine.specs.Step.{lengthsOf, refused, step, valueOf}
+use Rattle.machine.specs.Work.{Work, adjusts, computes, deals, modulusAt, numberKind, opens, workOf}
 use Rattle.machine.specs.declared.orders.Order.{Order}
 use Rattle.machine.specs.declared.orders.Order.the-variants.{Add, Compose, Convert, Deal, Decompose, Multiply, Open, Scale, Shift}
 use Rattle.machine.specs.declared.registers.Machine.{Machine}
-use Rattle.machine.specs.declared.registers.Register.{Register}
-use Rattle.machine.specs.declared.registers.Register.the-variants.{Bits, Number}
+use Rattle.party.specs.Steps.{gatesIn, withoutNumber}
+use Rattle.job.specs.Jobs.{RefusedNumber, isOpening}
 
 -- "A refused order answers value 0 and 0 gates", and record, positions and channels are as they were
 abbrev pub Unchanged : Type 0
@@ -38,6 +37,14 @@ PublicRefusal = (o : Order) (m : Machine) (T : Tapes) (c : Place → List ℕ)
     → sound m ≡ true
     → (step o m T c .refusal ≡ 10 → ⊥)
     → step o m T c .refusal ≡ firstMet (publicChecks o (publicOf m) (lengthsOf T c))
+
+-- "only refusals 1, 7 and 10 look further": apart from 1, 10 and a deal's 7, the refusal goes by what is public, a deal's number put to 0
+abbrev pub PublicFields : Type 0
+PublicFields = (o : Order) (m : Machine) (T : Tapes) (c : Place → List ℕ)
+    → sound m ≡ true
+    → (step o m T c .refusal ≡ 10 → ⊥)
+    → (RefusedNumber o (step o m T c .refusal) → ⊥)
+    → step o m T c .refusal ≡ firstMet (publicChecks (withoutNumber o) (publicOf m) (lengthsOf T c))
 
 -- the words that an order writes on each channel, and the dealer's items that it takes
 abbrev pub wordsOf : Work → ℕ
@@ -59,6 +66,29 @@ PositionsRise = (o : Order) (m : Machine) (T : Tapes) (c : Place → List ℕ)
     → (step o m T c .machine .«masks_at» ≡ m .«masks_at» + step o m T c .gates)
     × (step o m T c .machine .«channels_at» ≡ m .«channels_at» + wordsOf (workOf o (publicOf m)))
     × (step o m T c .machine .«dealer_at» ≡ m .«dealer_at» + itemsOf (workOf o (publicOf m)))
+
+-- "Each answer carries the number of gates spent": those of the order's circuit
+abbrev pub GatesAnswered : Type 0
+GatesAnswered = (o : Order) (m : Machine) (T : Tapes) (c : Place → List ℕ)
+    → step o m T c .refusal ≡ 0
+    → step o m T c .gates ≡ gatesIn (workOf o (publicOf m))
+
+-- and as 01 counts them: "one gate", "In all 3l + 1 gates", "Five gates", "3(e-2) + 1 + 2(e-2-s) gates", "two gates a bit", "no gate"
+abbrev pub gatesFor : Order → Public → ℕ
+gatesFor (Deal d e v) p = 0
+gatesFor (Add d x y) p = 0
+gatesFor (Scale d x c) p = 0
+gatesFor (Multiply d x y) p = 1
+gatesFor (Decompose d x l) p = 3 * l + 1
+gatesFor (Convert d x f) p = 5
+gatesFor (Shift d x s) p = let e = widthAt (kindAt p x) in 3 * (e - 2) + 1 + 2 * (e - 2 - s)
+gatesFor (Compose d x f) p = 2 * countAt (kindAt p x)
+gatesFor (Open x) p = 0
+
+abbrev pub GatesCounted : Type 0
+GatesCounted = (o : Order) (m : Machine) (T : Tapes) (c : Place → List ℕ)
+    → step o m T c .refusal ≡ 0
+    → step o m T c .gates ≡ gatesFor o (publicOf m)
 
 -- the register that an order writes: 16 where it writes none
 abbrev pub destination : Order → ℕ
@@ -85,11 +115,31 @@ ChannelsStand = (o : Order) (m : Machine) (T : Tapes) (c : Place → List ℕ) (
     × ((k : ℕ) → k < m .«channels_at» → getD (step o m T c .channels i) k 0 ≡ getD (c i) k 0)
     × ((k : ℕ) → m .«channels_at» + wordsOf (workOf o (publicOf m)) ≤ k → getD (step o m T c .channels i) k 0 ≡ getD (c i) k 0)
 
--- "An accepted one answers value 0 unless it opens", and then the register's value
+-- "A refused order answers value 0 and 0 gates. An accepted one answers value 0 unless it opens"
+abbrev pub ValueAnswered : Type 0
+ValueAnswered = (o : Order) (m : Machine) (T : Tapes) (c : Place → List ℕ)
+    → isOpening o ≡ false
+    → step o m T c .value ≡ 0
+
+-- an accepted opening: "the answer is the value"
 abbrev pub OpensValue : Type 0
 OpensValue = (x : ℕ) (m : Machine) (T : Tapes) (c : Place → List ℕ)
     → step (Open x) m T c .refusal ≡ 0
     → step (Open x) m T c .value ≡ valueOf (registerAt m x)
+
+-- the kind of the register that an order writes: an opening writes none, and register 16 is empty, as there is none
+abbrev pub kindLeft : Work → Kind
+kindLeft (deals d e v) = numberKind (ringOf e)
+kindLeft (adjusts C d x y kind) = kind
+kindLeft (computes C d x y kind) = kind
+kindLeft (opens x) = empty
+
+-- `length (m .slots) ≡ 16`, here and below: the record's array of sixteen registers has no other length
+abbrev pub KindLeft : Type 0
+KindLeft = (o : Order) (m : Machine) (T : Tapes) (c : Place → List ℕ)
+    → step o m T c .refusal ≡ 0
+    → length (m .slots) ≡ 16
+    → kindAt (publicOf (step o m T c .machine)) (destination o) ≡ kindLeft (workOf o (publicOf m))
 
 -- what each accepted order leaves in d, as a value: a is the value of register x just before, b that of register y
 abbrev pub valueAt : Machine → ℕ → ℕ
@@ -105,39 +155,39 @@ abbrev pub AddLeaves : Type 0
 AddLeaves = (d x y : ℕ) (m : Machine) (T : Tapes) (c : Place → List ℕ)
     → step (Add d x y) m T c .refusal ≡ 0
     → length (m .slots) ≡ 16
-    → valueAt (step (Add d x y) m T c .machine) d ≡ (valueAt m x + valueAt m y) % modulus (widthAt (kindAt (publicOf m) x))
+    → valueAt (step (Add d x y) m T c .machine) d ≡ (valueAt m x + valueAt m y) % modulusAt (publicOf m) x
 
 abbrev pub ScaleLeaves : Type 0
 ScaleLeaves = (d x k : ℕ) (m : Machine) (T : Tapes) (c : Place → List ℕ)
     → step (Scale d x k) m T c .refusal ≡ 0
     → length (m .slots) ≡ 16
-    → valueAt (step (Scale d x k) m T c .machine) d ≡ valueAt m x * k % modulus (widthAt (kindAt (publicOf m) x))
+    → valueAt (step (Scale d x k) m T c .machine) d ≡ valueAt m x * k % modulusAt (publicOf m) x
 
 abbrev pub MultiplyLeaves : Type 0
 MultiplyLeaves = (d x y : ℕ) (m : Machine) (T : Tapes) (c : Place → List ℕ)
     → step (Multiply d x y) m T c .refusal ≡ 0
     → length (m .slots) ≡ 16
-    → valueAt (step (Multiply d x y) m T c .machine) d ≡ valueAt m x * valueAt m y % modulus (widthAt (kindAt (publicOf m) x))
+    → valueAt (step (Multiply d x y) m T c .machine) d ≡ valueAt m x * valueAt m y % modulusAt (publicOf m) x
 
 abbrev pub DecomposeLeaves : Type 0
 DecomposeLeaves = (d x l : ℕ) (m : Machine) (T : Tapes) (c : Place → List ℕ)
     → step (Decompose d x l) m T c .refusal ≡ 0
     → length (m .slots) ≡ 16
-    → 4 * valueAt m x < modulus (widthAt (kindAt (publicOf m) x))
+    → 4 * valueAt m x < modulusAt (publicOf m) x
     → valueAt (step (Decompose d x l) m T c .machine) d ≡ valueAt m x % 2 ^ l
 
 abbrev pub ConvertLeaves : Type 0
 ConvertLeaves = (d x f : ℕ) (m : Machine) (T : Tapes) (c : Place → List ℕ)
     → step (Convert d x f) m T c .refusal ≡ 0
     → length (m .slots) ≡ 16
-    → 4 * valueAt m x < modulus (widthAt (kindAt (publicOf m) x))
+    → 4 * valueAt m x < modulusAt (publicOf m) x
     → valueAt (step (Convert d x f) m T c .machine) d ≡ valueAt m x % modulus f
 
 abbrev pub ShiftLeaves : Type 0
 ShiftLeaves = (d x s : ℕ) (m : Machine) (T : Tapes) (c : Place → List ℕ)
     → step (Shift d x s) m T c .refusal ≡ 0
     → length (m .slots) ≡ 16
-    → 4 * valueAt m x < modulus (widthAt (kindAt (publicOf m) x))
+    → 4 * valueAt m x < modulusAt (publicOf m) x
     → valueAt (step (Shift d x s) m T c .machine) d ≡ valueAt m x / 2 ^ s
 
 abbrev pub ComposeLeaves : Type 0
@@ -146,10 +196,30 @@ ComposeLeaves = (d x f : ℕ) (m : Machine) (T : Tapes) (c : Place → List ℕ)
     → length (m .slots) ≡ 16
     → valueAt (step (Compose d x f) m T c .machine) d ≡ valueAt m x % modulus f
 
--- the same for all sub-shares, with no condition on a
+-- the same for all sub-shares, with no condition on a: e is the width of register x and X the total of its 4 a_i modulo p
+
+-- "The value is (X div 4 + [X mod 4 is not 0]) modulo 2^l"
 abbrev pub DecomposeLeavesAll : Type 0
 DecomposeLeavesAll = (d x l : ℕ) (m : Machine) (T : Tapes) (c : Place → List ℕ)
     → step (Decompose d x l) m T c .refusal ≡ 0
     → length (m .slots) ≡ 16
     → valueAt (step (Decompose d x l) m T c .machine) d
     ≡ roundedUp (lifted (widthAt (kindAt (publicOf m) x)) (parts (sharesOf (registerAt m x)))) % 2 ^ l
+
+-- "The value is 4^(-1) × (X - p × (-X mod 4)) modulo p'"
+abbrev pub ConvertLeavesAll : Type 0
+ConvertLeavesAll = (d x f : ℕ) (m : Machine) (T : Tapes) (c : Place → List ℕ)
+    → step (Convert d x f) m T c .refusal ≡ 0
+    → length (m .slots) ≡ 16
+    → (let X = lifted (widthAt (kindAt (publicOf m) x)) (parts (sharesOf (registerAt m x))) in
+    valueAt (step (Convert d x f) m T c .machine) d
+    ≡ quarter f * diff (modulus f) X (modulusAt (publicOf m) x * diff 4 0 X) % modulus f)
+
+-- "decompose with l = e-2, then compose bits s and up with weights 2^(j-s)"
+abbrev pub ShiftLeavesAll : Type 0
+ShiftLeavesAll = (d x s : ℕ) (m : Machine) (T : Tapes) (c : Place → List ℕ)
+    → step (Shift d x s) m T c .refusal ≡ 0
+    → length (m .slots) ≡ 16
+    → (let e = widthAt (kindAt (publicOf m) x) in
+    valueAt (step (Shift d x s) m T c .machine) d
+    ≡ roundedUp (lifted e (parts (sharesOf (registerAt m x)))) % 2 ^ (e - 2) / 2 ^ s)

@@ -1,2 +1,3 @@
-// What every order leaves of the record, the positions and the channels, and what of it one party can work out. Statements and
-// proofs only.
+// What every order leaves and answers, by the definition of the machine's step: refusals, record, positions, channels, registers'
+// kinds and values, gates; what of it one party works out from its own data; and that values go by values alone, whatever the tapes.
+// Statements and proofs only.

@@ -1,10 +1,10 @@
 -- Locality of every accepted order (specs/Theorems.antt).
 use Prim.Native.Nat.{ℕ, zero, suc, _+_}
 use mathlib.Core.List.{List, [], _∷_, map}
-use mathlib.Core.Path.{_≡_, ap, ap₂, refl, sym, _∙_}
+use mathlib.Core.Path.{_≡_, ap, refl, sym, _∙_}
 use lib.ListN.{List·getD-map, getD, set}
 use Rattle.ring.specs.Rings.{modulus, ringOf}
-use Rattle.gate.specs.Places.{Pair, Place, held, next, p0, p1, p2, pair, parts, sharing, tabled}
+use Rattle.gate.specs.Places.{Pair, Place, next, p0, p1, p2, pair, parts, sharing}
 use Rattle.gate.specs.declared.sharing.Sharing.{Sharing}
 use Rattle.gate.proofs.PlaceLaw.{parts-sharing, tabled-at, tabled-is}
 use Rattle.circuit.specs.Circuits.{Circuit, channelled, ends, gatesOf, result, starts}

@@ -1,2 +1,3 @@
 pub mod Own
+pub mod Steps
 pub mod Theorems

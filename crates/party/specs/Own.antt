@@ -2,14 +2,14 @@
 -- rings, bit counts, positions, lengths)".
 use Prim.Native.Nat.{ℕ, _+_}
 use mathlib.Core.List.{List, [], _∷_, map}
-use lib.ListN.{drop, getD, set}
+use lib.ListN.{getD, set}
 use Rattle.ring.specs.Rings.{modulus, ringOf}
 use Rattle.gate.specs.Places.{Pair, Place, held, next, pair, parts}
 use Rattle.circuit.specs.Circuits.{Circuit, channelled, gatesOf}
 use Rattle.view.specs.Views.{Held, ownEnds, ownSent}
 use Rattle.machine.specs.Checks.{Tapes}
 use Rattle.machine.specs.Registers.{Kind, Public, bits, empty, number, publicOf, registerAt, sharesOf}
-use Rattle.machine.specs.Step.{Outcome, dealtShares, written}
+use Rattle.machine.specs.Step.{dealtShares, written}
 use Rattle.machine.specs.Work.{Work, adjusts, computes, deals, numberKind, opens}
 use Rattle.machine.specs.declared.registers.Machine.{Machine}
 use Rattle.machine.specs.declared.registers.Slot.{Slot}
