@@ -158,7 +158,7 @@ module _ (U : Place) (own far : List ℕ) where
       ap (before (itemsK U own far h e f m n c d)) (unique sub sub′)
 
   -- and there always are some
-  pub change : (h : Hidden) (es fs : List Entry) → AlikeLists es fs → (m n : Machine) (c d : Place → List ℕ)
+  unfoldable pub change : (h : Hidden) (es fs : List Entry) → AlikeLists es fs → (m n : Machine) (c d : Place → List ℕ)
       → (out : Hidden) × Changed U own far h es fs m n c d out
   change h [] [] jobs.done m n c d = (restOf m h, end)
   change h (e ∷ es) (f ∷ fs) (jobs.more a tail) m n c d =

@@ -55,5 +55,5 @@ unfolding total
 number-value r x e h k = rw (e, k, h) (mod-add-mod (x .s0 + x .s1) (modulusOf r) (x .s2))
 
 -- no test is both
-pub never-both : {b : Bool} {v w : ℕ} → b ≡ false → b ≡ true → v ≡ w
+pub never-both : {A : Type 0} {b : Bool} {v w : A} → b ≡ false → b ≡ true → v ≡ w
 never-both h k = cc

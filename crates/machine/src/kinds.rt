@@ -1,9 +1,9 @@
 // What is public of a register, its sub-shares and its value.
 ghost use mathlib.Core.Bool.{true};
 ghost use mathlib.Core.Path.{_≡_};
-ghost use Rattle.ring.specs.Rings.{modulus, widthOf};
+ghost use Rattle.ring.specs.Rings.{modulus};
 ghost use Rattle.machine.specs.Checks.{isBits, isEmpty, isNumber};
-ghost use Rattle.machine.specs.Registers.{countAt, kindOf, registerOf, sharesOf, soundRegister, widthAt};
+ghost use Rattle.machine.specs.Registers.{countAt, kindOf, number, registerOf, sharesOf, soundRegister, widthAt};
 ghost use Rattle.machine.specs.Step.{valueOf};
 use crate::registers::Register;
 use gate::Sharing;
@@ -42,7 +42,7 @@ impl Register {
 
     // The ring of a number.
     pub fn ring(self) -> Ring
-        ensures { λ r. ⌜ (isNumber (kindOf self) ≡ true → widthAt (kindOf self) ≡ widthOf r) ⌝ }
+        ensures { λ r. ⌜ (isNumber (kindOf self) ≡ true → kindOf self ≡ number r) ⌝ }
     {
         match self {
             Register::Empty => Ring::R13,

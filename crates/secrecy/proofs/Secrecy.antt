@@ -114,7 +114,7 @@ module _ (U : Place) (own far : List ℕ) where
   carried : (J K : Job) (a : Alike J K) → Words (J .masksLength U) own → Words (J .masksLength (next U)) far
       → (T T′ : Tapes) → Meet J K T T′ → (h : Hidden) → Hides J U h → Fair J (tapesWith U own far h)
       → Fair K (tapesWith U own far (image J K a h))
-        × (views U J (tapesWith U own far h) ≡ views U K (tapesWith U own far (image J K a h)))
+      × (views U J (tapesWith U own far h) ≡ views U K (tapesWith U own far (image J K a h)))
   unfolding course
   carried J K a wo wf T T′ meet h hides fairJ =
       let k = image J K a h in
@@ -147,16 +147,25 @@ secrecy J K a U own far wo wf =
     let forth = carried U own far J K a wo wf in
     let back = carried U own far K J b wo′ wf′ in
     let home = image-back U own far J K a b in
-    record
-      { to = to
-      ; from = image U own far K J b
-      ; to-hides = image-hides U own far J K a
-      ; from-hides = image-hides U own far K J b
-      ; from-to = home
-      ; to-from = image-back U own far K J b a
-      ; fair = λ T T′ meet h hides.
-          ( (λ f. forth T T′ meet h hides f .0)
-          , (λ f. subst (λ (x : Hidden). Fair J (tapesWith U own far x)) (home h hides)
-              (back T′ T (meet-back meet) (to h) (image-hides U own far J K a h hides) f .0)) )
-      ; alike = λ T T′ meet h hides f. forth T T′ meet h hides f .1
-      }
+    record {
+      to = to;
+      from = image U own far K J b;
+      to-hides = image-hides U own far J K a;
+      from-hides = image-hides U own far K J b;
+      from-to = home;
+      to-from = image-back U own far K J b a;
+      fair = λ T T′ meet h hides. (
+        (λ f. forth T T′ meet h hides f .0),
+        (λ f. subst (λ (x : Hidden). Fair J (tapesWith U own far x)) (home h hides)
+            (back T′ T (meet-back meet) (to h) (image-hides U own far J K a h hides) f .0)),
+      );
+      alike = λ T T′ meet h hides f. forth T T′ meet h hides f .1;
+    }
+
+-- the change that it gives is that of crate `change`
+pub to-is : (J K : Job) (a : Alike J K) (U : Place) (own far : List ℕ)
+    (wo : Words (J .masksLength U) own) (wf : Words (J .masksLength (next U)) far) (h : Hidden)
+    → secrecy J K a U own far wo wf .to h
+    ≡ change U own far h (J .entries) (K .entries) (a .entries) emptyMachine emptyMachine (J .channels) (K .channels) .0
+unfolding secrecy image
+to-is J K a U own far wo wf h = refl

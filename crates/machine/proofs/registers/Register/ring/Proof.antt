@@ -1,7 +1,7 @@
 use mathlib.Core.Path.{ap}
 use borrow.Author.Needs.{needs}
 use Rattle.machine.specs.Checks.{isNumber}
-use Rattle.machine.specs.Registers.{kindOf, widthAt}
+use Rattle.machine.specs.Registers.{kindOf}
 use Rattle.machine.specs.declared.registers.Register.{Register}
 use Rattle.machine.proofs.KindLaw.{never-both}
 use Rattle.machine.proofs.registers.Register.ring.Statement.{statement}
@@ -11,7 +11,7 @@ none : tie.Need-returns
 none c = never-both (ap (λ (a : Register). isNumber (kindOf a)) (c .enum-told .given .1))
 
 number : tie.Need-returns-2
-number c h = ap (λ (a : Register). widthAt (kindOf a)) (c .before .self .given .1)
+number c h = ap kindOf (c .before .self .given .1)
 
 bits : tie.Need-returns-3
 bits c = never-both (ap (λ (a : Register). isNumber (kindOf a)) (c .enum-told2 .given .1))

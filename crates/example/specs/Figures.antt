@@ -1,0 +1,100 @@
+-- What the two runs answer and hold, and the change of one pair of hidden tapes. Proofs: proofs/Example.antt and proofs/Image.antt.
+use Prim.Native.Nat.{ℕ}
+use mathlib.Core.List.{List, [], _∷_, map}
+use Rattle.gate.specs.Places.{Place, next}
+use Rattle.view.specs.Views.{lackedBy}
+use Rattle.machine.specs.Checks.{Tapes}
+use Rattle.machine.specs.Registers.{emptyMachine}
+use Rattle.machine.specs.Step.{Outcome, valueOf}
+use Rattle.machine.specs.declared.orders.Order.{Order}
+use Rattle.machine.specs.declared.orders.Order.the-variants.{Add, Compose, Convert, Deal, Decompose, Multiply, Open, Scale, Shift}
+use Rattle.machine.specs.declared.registers.Machine.{Machine}
+use Rattle.machine.specs.declared.registers.Slot.{Slot}
+use Rattle.job.specs.Jobs.{Entry, Job, course}
+use Rattle.job.specs.Secrecy.{Hidden, tapesWith}
+use Rattle.example.specs.Example.{T}
+
+-- 01, "The nine orders": the number of each kind
+abbrev kindNumber : Order → ℕ
+kindNumber (Deal d e v) = 1
+kindNumber (Add d x y) = 2
+kindNumber (Scale d x c) = 3
+kindNumber (Multiply d x y) = 4
+kindNumber (Decompose d x l) = 5
+kindNumber (Convert d x f) = 6
+kindNumber (Shift d x s) = 7
+kindNumber (Compose d x f) = 8
+kindNumber (Open x) = 9
+
+-- an order's kind and its answer: refusal or 0, value opened or 0, gates
+pub record Line : Type 0 where
+  pub kind : ℕ
+  pub refusal : ℕ
+  pub value : ℕ
+  pub gates : ℕ
+
+abbrev line : (kind refusal value gates : ℕ) → Line
+line kind refusal value gates = record { kind = kind; refusal = refusal; value = value; gates = gates }
+
+unfoldable pub linesFrom : List Entry → List Outcome → List Line
+linesFrom [] os = []
+linesFrom (e ∷ es) [] = []
+linesFrom (e ∷ es) (o ∷ os) = line (kindNumber (e .order)) (o .refusal) (o .value) (o .gates) ∷ linesFrom es os
+
+abbrev pub lines : Job → Tapes → List Line
+lines J T = linesFrom (J .entries) (course J T)
+
+-- the lines of either run: every kind is accepted, one opening meets 3 and one shift 9
+abbrev pub table : List Line
+table =
+    line 1 0 0 0
+    ∷ line 1 0 0 0
+    ∷ line 2 0 0 0
+    ∷ line 9 0 12 0
+    ∷ line 3 0 0 0
+    ∷ line 4 0 0 1
+    ∷ line 5 0 0 10
+    ∷ line 9 3 0 0
+    ∷ line 6 0 0 5
+    ∷ line 7 9 0 0
+    ∷ line 7 0 0 36
+    ∷ line 8 0 0 6
+    ∷ line 9 0 1 0
+    ∷ []
+
+-- the values of the 16 registers after the last order
+unfoldable pub valuesFrom : Machine → List Outcome → List ℕ
+valuesFrom m [] = map (λ (s : Slot). valueOf (s .reg)) (m .slots)
+valuesFrom m (o ∷ os) = valuesFrom (o .machine) os
+
+abbrev pub values : Job → Tapes → List ℕ
+values J T = valuesFrom emptyMachine (course J T)
+
+-- what party U sees of the tapes of the run of J, and what it does not
+abbrev pub own : Place → List ℕ
+own U = T .masks U
+
+abbrev pub far : Place → List ℕ
+far U = T .masks (next U)
+
+abbrev pub hidden : Place → Hidden
+hidden U = record { dealer = T .dealer; lacked = T .masks (lackedBy U) }
+
+-- the tapes with others in the place of those that it does not see
+abbrev pub withHidden : Place → Hidden → Tapes
+withHidden U h = tapesWith U (own U) (far U) h
+
+-- what the change makes of what party 1 does not see. It is handed 100 and 96 of 5 as 8000, 100, 96 in J, of 4 as 7999, 100, 96 in K
+unfoldable pub image : Hidden
+image =
+    record {
+      dealer = 7999 ∷ 100 ∷ 4001 ∷ 8000 ∷ 18446744073709551615 ∷ [];
+      lacked =
+          4873
+          ∷ 1 ∷ 0 ∷ 0 ∷ 1 ∷ 1 ∷ 0 ∷ 1 ∷ 0 ∷ 1 ∷ 1
+          ∷ 1 ∷ 1753981654 ∷ 210564253 ∷ 965626409 ∷ 24672076
+          ∷ 1 ∷ 0 ∷ 1 ∷ 1 ∷ 1 ∷ 1 ∷ 1 ∷ 1 ∷ 0 ∷ 0 ∷ 0 ∷ 1 ∷ 1 ∷ 0 ∷ 0 ∷ 0 ∷ 0
+          ∷ 0 ∷ 0 ∷ 1 ∷ 1 ∷ 1 ∷ 1 ∷ 0 ∷ 0 ∷ 0 ∷ 0 ∷ 0 ∷ 1 ∷ 0 ∷ 1 ∷ 0 ∷ 0 ∷ 0 ∷ 6702 ∷ 400
+          ∷ 7886 ∷ 5772 ∷ 4286 ∷ 7264 ∷ 5492 ∷ 840
+          ∷ 18446744073709551615 ∷ 0 ∷ [];
+    }

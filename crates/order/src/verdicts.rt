@@ -1,0 +1,126 @@
+// The checks that orders share.
+ghost use mathlib.Core.Bool.{false};
+ghost use mathlib.Core.List.{[], _∷_, _++_};
+ghost use mathlib.Core.Path.{_≡_};
+ghost use Prim.Native.Nat.{_+_, _-_};
+ghost use lib.Dec.{ltb};
+ghost use Rattle.gate.specs.Places.{three};
+ghost use Rattle.ring.specs.Rings.{ringOf};
+ghost use Rattle.machine.specs.Checks.{aNumber, check, firstMet, isEmpty, isNumber, noRing, twoNumbers, uneven};
+ghost use Rattle.machine.specs.Registers.{kindAt, kindOf, publicOf};
+ghost use Rattle.order.specs.Answers.{numberOf, verdictOf};
+ghost use Rattle.order.specs.Attempts.{beginChecks};
+use crate::answers::Verdict;
+use crate::answers::refuse_if;
+use machine::Machine;
+use machine::Refusal;
+use machine::Register;
+use ring::OfWidth;
+use ring::Ring;
+
+const MILLION: u64 = 1_000_000;
+
+// Checks 1 and 2, of an order that names up to three registers.
+pub fn begin(m: Machine, d: u64, x: u64, y: u64) -> Verdict
+    ensures { λ v. ⌜ verdictOf v ≡ firstMet (beginChecks m (d ∷ x ∷ y ∷ [])) ⌝ }
+{
+    let unsound = refuse_if(!m.is_sound(), Refusal::Unsound);
+    let above = (15 < d) | ((15 < x) | (15 < y));
+    unsound.then(refuse_if(above, Refusal::NoRegister))
+}
+
+// Checks 3, 4 and 6 of two sources.
+pub fn two_numbers(x: Register, y: Register) -> Verdict
+    ensures { λ v. ⌜ verdictOf v ≡ firstMet (twoNumbers (kindOf x) (kindOf y)) ⌝ }
+{
+    let empty = refuse_if(x.is_empty() | y.is_empty(), Refusal::EmptySource);
+    let bits = refuse_if(x.is_bits() | y.is_bits(), Refusal::WrongKind);
+    let differ = x.width() != y.width();
+    empty.then(bits.then(refuse_if(differ, Refusal::RingsDiffer)))
+}
+
+// Checks 3 and 4 of a source that must be a number.
+pub fn a_number(x: Register) -> Verdict
+    ensures { λ v. ⌜ verdictOf v ≡ firstMet (aNumber (kindOf x)) ⌝ }
+{
+    let empty = refuse_if(x.is_empty(), Refusal::EmptySource);
+    empty.then(refuse_if(x.is_bits(), Refusal::WrongKind))
+}
+
+// Whether a width names no ring.
+pub fn no_ring(e: u64) -> bool
+    ensures { λ r. ⌜ r ≡ noRing (ringOf e) ⌝ }
+{
+    let w = Ring::of_width(e);
+    match w {
+        OfWidth::Named(_) => false,
+        OfWidth::NoRing => true,
+    }
+}
+
+// Three runs of unequal length, or over 1,000,000 words.
+pub fn uneven(l0: u64, l1: u64, l2: u64) -> bool
+    ensures { λ r. ⌜ r ≡ uneven (three l0 l1 l2) ⌝ }
+{
+    (l0 != l1) | ((l1 != l2) | (MILLION < l0))
+}
+
+// Fewer than n left from a position on.
+pub fn too_few(length: u64, at: u64, n: u64) -> bool
+    ensures { λ r. ⌜ r ≡ ltb length (at + n) ⌝ }
+{
+    if length < at {
+        return true;
+    }
+    length - at < n
+}
+
+// a - b, or 0.
+pub fn less(a: u64, b: u64) -> u64
+    ensures { λ r. ⌜ r ≡ a - b ⌝ }
+{
+    if a < b {
+        return 0;
+    }
+    a - b
+}
+
+// The ring of a width that names one.
+pub fn ring_named(e: u64) -> Ring
+    ensures { λ r. ⌜ (noRing (ringOf e) ≡ false → ringOf e ≡ OfWidth.Named r) ⌝ }
+{
+    let w = Ring::of_width(e);
+    match w {
+        OfWidth::Named(r) => r,
+        OfWidth::NoRing => Ring::R13,
+    }
+}
+
+// All that the record decides of an order on two numbers.
+pub fn pair_why(m: Machine, d: u64, x: u64, y: u64) -> Verdict
+    ensures { λ v. ⌜ verdictOf v ≡ firstMet (beginChecks m (d ∷ x ∷ y ∷ []) ++ twoNumbers (kindAt (publicOf m) x) (kindAt (publicOf m) y)) ⌝ }
+{
+    let a = m.register(x);
+    let b = m.register(y);
+    begin(m, d, x, y).then(two_numbers(a, b))
+}
+
+// And of an order on one number, with a check of its own last.
+pub fn number_why(m: Machine, d: u64, x: u64, met: bool, w: Refusal) -> Verdict
+    ensures { λ v. ⌜ verdictOf v ≡ firstMet (beginChecks m (d ∷ x ∷ []) ++ (aNumber (kindAt (publicOf m) x) ++ (check met (numberOf w) ∷ []))) ⌝ }
+{
+    let a = m.register(x);
+    let last = refuse_if(met, w);
+    begin(m, d, x, x).then(a_number(a).then(last))
+}
+
+// And of composing.
+pub fn bits_why(m: Machine, d: u64, x: u64, met: bool) -> Verdict
+    ensures { λ v. ⌜ verdictOf v ≡ firstMet (beginChecks m (d ∷ x ∷ []) ++ (check (isEmpty (kindAt (publicOf m) x)) 3 ∷ check (isNumber (kindAt (publicOf m) x)) 4 ∷ check met 5 ∷ [])) ⌝ }
+{
+    let a = m.register(x);
+    let empty = refuse_if(a.is_empty(), Refusal::EmptySource);
+    let number = refuse_if(a.is_number(), Refusal::WrongKind);
+    let last = refuse_if(met, Refusal::NoRing);
+    begin(m, d, x, x).then(empty.then(number.then(last)))
+}
