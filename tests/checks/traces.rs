@@ -104,14 +104,12 @@ fn conversions() {
                 let sent = trace(&mut draw, &mut bench, (6, to.width()), &[2, p, p, p, p]);
                 let r = x.map(|part| 3 & part.wrapping_neg());
                 let (carry, product) = majority(r[0] & 1, r[1] & 1, r[2] & 1);
-                assert_eq!(sent[..3], [&[product], &composition(r, 0, 1)[..]].concat());
-                // The parts of the carry are hidden: check q's upper bit by value.
-                let upper = (r[0] ^ r[1] ^ r[2]) >> 1 ^ carry;
-                assert_eq!(
-                    upper << 1 | (r[0] ^ r[1] ^ r[2]) & 1,
-                    r.iter().sum::<u64>() % 4
-                );
-                assert!(sent[3] < 2 && sent[4] < 2);
+                // The carry's parts are the words sent, the third with c.
+                let [w0, w1, w2] = bench.channels.each_ref().map(|words| words[0]);
+                assert_eq!(w0 ^ w1 ^ w2 ^ r[2] & 1, carry);
+                let q = [r[0] ^ w0 << 1, r[1] ^ w1 << 1, r[2] ^ (w2 ^ r[2] & 1) << 1];
+                assert_eq!(q[0] ^ q[1] ^ q[2], r.iter().sum::<u64>() % 4);
+                assert_eq!(sent, [vec![product], composition(q, 0, 2)].concat());
             }
         }
     }

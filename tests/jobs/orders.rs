@@ -58,8 +58,17 @@ fn number_fields(draw: &mut Draw, record: &Record, kind: u64, d: u64) -> Option<
     Some(vec![d, x, third])
 }
 
+/// A destination, seldom above 9 so that some registers stay empty.
+fn destination(draw: &mut Draw) -> u64 {
+    if draw.chance(4) {
+        draw.below(16)
+    } else {
+        draw.below(10)
+    }
+}
+
 fn fields(draw: &mut Draw, record: &Record, kind: u64) -> Option<Vec<u64>> {
-    let d = draw.below(16);
+    let d = destination(draw);
     match kind {
         1 => {
             let ring = draw.ring();
@@ -88,13 +97,19 @@ pub fn sensible(draw: &mut Draw, record: &Record) -> Order {
     Order::new(kind, &fields).unwrap()
 }
 
-fn edgy_register(draw: &mut Draw) -> u64 {
-    match draw.below(30) {
+/// Register 15, a number above it or, mostly, one of the usual ones.
+fn edgy_register(draw: &mut Draw, usual: u64) -> u64 {
+    match draw.below(40) {
         0 => 16,
         1 => draw.pick(&[17, 31, 255, 256, 1 << 32, (1 << 32) + 3, 1 << 63, BIG]),
-        2..=4 => 15,
-        _ => draw.below(16),
+        2 => 15,
+        _ => usual,
     }
+}
+
+fn edgy_source(draw: &mut Draw) -> u64 {
+    let usual = draw.below(16);
+    edgy_register(draw, usual)
 }
 
 fn edgy_width(draw: &mut Draw) -> u64 {
@@ -138,7 +153,9 @@ fn edgy_count(draw: &mut Draw, ring: Ring) -> u64 {
 /// An order with fields at the edges, right or wrong.
 pub fn edgy(draw: &mut Draw, record: &Record) -> Order {
     let kind = 1 + draw.below(9);
-    let [d, x] = [0; 2].map(|_| edgy_register(draw));
+    let usual = destination(draw);
+    let d = edgy_register(draw, usual);
+    let x = edgy_source(draw);
     let ring = match record.registers.get(x as usize) {
         Some(Register::Number { ring, .. }) => *ring,
         _ => draw.ring(),
@@ -149,7 +166,7 @@ pub fn edgy(draw: &mut Draw, record: &Record) -> Order {
             let ring = Ring::of_width(width).unwrap_or(ring);
             vec![d, width, edgy_number(draw, ring)]
         }
-        2 | 4 => vec![d, x, edgy_register(draw)],
+        2 | 4 => vec![d, x, edgy_source(draw)],
         3 => vec![d, x, edgy_number(draw, ring)],
         5 | 7 => vec![d, x, edgy_count(draw, ring)],
         6 | 8 => vec![d, x, edgy_width(draw)],
