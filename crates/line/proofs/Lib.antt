@@ -1,0 +1,7 @@
+pub mod FieldLaw
+pub mod ReadLaw
+pub mod StepLaw
+pub mod LineLaw
+pub mod DecimalLaw
+pub mod PrintLaw
+pub mod Theorems
