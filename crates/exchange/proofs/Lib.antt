@@ -1,0 +1,3 @@
+pub mod CheckLaw
+pub mod DealLaw
+pub mod OpenLaw
