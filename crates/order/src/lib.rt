@@ -5,7 +5,16 @@ mod tasks;
 mod verdicts;
 
 pub use answers::Outcome;
+pub use answers::Verdict;
 pub use answers::gates;
 pub use answers::number;
 pub use answers::refusal;
+pub use answers::refuse_if;
+pub use answers::refused;
+pub use answers::stored;
 pub use answers::value;
+pub use tasks::Cost;
+pub use tasks::Prepared;
+pub use tasks::Task;
+pub use verdicts::too_few;
+pub use verdicts::uneven;

@@ -1,0 +1,3 @@
+pub mod AttemptLaw
+pub mod ItemsLaw
+pub mod SupplyLaw

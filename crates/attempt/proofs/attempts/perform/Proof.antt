@@ -1,0 +1,38 @@
+-- Lengths that are refused, and those that give the gates what they take.
+use Prim.Native.Nat.{_+_}
+use borrow.Author.Needs.{needs}
+use Rattle.gate.specs.Places.{three}
+use Rattle.attempt.proofs.AttemptLaw.{enough, long-enough, short}
+use Rattle.attempt.proofs.attempts.perform.Statement.{statement}
+use Rattle.attempt.proofs.attempts.perform.Tie as tie
+
+refusal : tie.Need-returns
+refusal c =
+    let known = c .before .before .before .before in
+    let a = known .before .before .before .before .before .before .before .before .before .args in
+    short (a .t) (a .d) (a .m) (known .before .before .cost .ensures) (three (a .m0 .now) (a .m1 .now) (a .m2 .now)) (three (a .c0 .now) (a .c1 .now) (a .c2 .now))
+    (known .room .ensures) (c .before .before .v .given .1) (c .refused .ensures (three (a .c0 .now) (a .c1 .now) (a .c2 .now)))
+
+fits : tie.Need-run-requires
+fits c κs =
+    let known = c .before .before .before .before .before in
+    let start = known .before .before .before .before .before .before .before .before .before in
+    let a = start .args in
+    let k = known .before .before .cost .result in
+    let long = long-enough (a .m) (k .bits + k .ring) (a .m0 .now) (a .m1 .now) (a .m2 .now) (a .c0 .now) (a .c1 .now) (a .c2 .now)
+    (known .room .ensures) (c .before .before .before .enum-told .given .1) in
+    (start .pre .0, (start .pre .1, (known .before .before .cost .ensures, (long .0, long .1))))
+
+done : tie.Need-returns-2
+done c =
+    let told = c .before .before .before .before .before .before .before .before .before .before in
+    let known = told .before .before in
+    let a = known .before .before .before .before .before .before .before .before .before .args in
+    enough (a .t) (a .d) (a .m) (known .before .before .cost .ensures) (three (a .m0 .now) (a .m1 .now) (a .m2 .now)) (three (a .c0 .now) (a .c1 .now) (a .c2 .now))
+    (known .room .ensures) (told .enum-told .given .1) (c .before .before .before .before .before .before .run .ensures)
+
+pub perform-spec : {M : Type 1} → statement M
+perform-spec =
+    tie.close
+    (tie.spec (λ c κs. search needs) (λ c. search needs) (λ c κs. search needs) (λ c. search needs) (λ c κs. search needs)
+    (λ c. search needs) fits refusal (λ c. search needs) (λ c. search needs) (λ c. search needs) done)

@@ -1,0 +1,45 @@
+// Check 10: items of the mask tapes that are out of range.
+ghost use mathlib.Core.List.{_++_};
+ghost use mathlib.Core.Path.{_≡_};
+ghost use Prim.Native.Nat.{_+_, _≤_};
+ghost use lib.ListN.{length, replicate};
+ghost use Rattle.gate.specs.Places.{three};
+ghost use Rattle.circuit.specs.Lent.{Long};
+ghost use Rattle.machine.specs.Checks.{anyOutside};
+ghost use Rattle.order.specs.Attempts.{anyBad};
+use order::Cost;
+
+// Whether one of the first n items is p or more.
+fn outside(p: u64, n: u64, items: &[u64]) -> bool
+    requires { ⌜ n ≤ length (now items) ⌝ }
+    ensures { λ r. ⌜ r ≡ anyOutside (replicate n p) (now (items .entry)) ⌝ }
+{
+    let mut k = 0;
+    while k < n {
+        let i = k as usize;
+        if p <= items[i] {
+            return true;
+        }
+        k += 1;
+    }
+    false
+}
+
+// The same on the three tapes.
+fn any_outside(p: u64, n: u64, m0: &[u64], m1: &[u64], m2: &[u64]) -> bool
+    requires { ⌜ Long n (now m0) (now m1) (now m2) ⌝ }
+    ensures { λ r. ⌜ r ≡ anyBad (replicate n p) (three (now (m0 .entry)) (now (m1 .entry)) (now (m2 .entry))) ⌝ }
+{
+    outside(p, n, m0) | (outside(p, n, m1) | outside(p, n, m2))
+}
+
+// "some item it would take is out of range": gates on bits first, then those in a ring.
+pub fn bad_items(k: Cost, m0: &[u64], m1: &[u64], m2: &[u64]) -> bool
+    requires { ⌜ Long (k .bits + k .ring) (now m0) (now m1) (now m2) ⌝ }
+    ensures { λ r. ⌜ r ≡ anyBad (replicate (k .bits) 2 ++ replicate (k .ring) (k .modulus)) (three (now (m0 .entry)) (now (m1 .entry)) (now (m2 .entry))) ⌝ }
+{
+    let n = k.bits;
+    let first = any_outside(2, n, m0, m1, m2);
+    let at = n as usize;
+    first | any_outside(k.modulus, k.ring, &m0[at..], &m1[at..], &m2[at..])
+}

@@ -1,0 +1,6 @@
+// Orders 2 to 8 of 01, once the record has decided: lengths, items, and the gates on lent runs.
+mod attempts;
+mod items;
+mod words;
+
+pub use attempts::attempt;

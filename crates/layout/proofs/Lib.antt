@@ -1,0 +1,3 @@
+pub mod ReadLaw
+pub mod Theorems
+pub mod WriteLaw

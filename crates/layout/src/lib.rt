@@ -1,0 +1,12 @@
+// Machine records, orders and answers as 64-bit words.
+mod answers;
+mod orders;
+mod records;
+mod registers;
+
+pub use answers::write_answer;
+pub use orders::OrderRead;
+pub use orders::read_order;
+pub use records::Read;
+pub use records::read_machine;
+pub use records::write_machine;
