@@ -1,15 +1,13 @@
 -- How lists of gates run: one after another, in range, and as images of each other.
-use Prim.Native.Nat.{ℕ, zero, suc, _+_, _<_}
-use mathlib.Core.List.{List, [], _∷_, _++_, map}
+use Prim.Native.Nat.{ℕ, zero, suc, _<_}
+use mathlib.Core.List.{List, [], _∷_, _++_}
 use mathlib.Core.Path.{_≡_, ap, ap₂, fun-ext, refl, sym, _∙_}
-use native.Mathlib.Nat.{add-zero, add-suc}
 use native.Mathlib.Numerals.{one-add}
 use native.Mathlib.Omega.{arith}
-use lib.ListN.{drop, getD, length, length-append}
+use lib.ListN.{drop, length, length-append}
 use lib.Seq.{drop-drop}
-use Rattle.gate.specs.Gates.{gated}
 use Rattle.gate.specs.Places.{Below, Place, tabled}
-use Rattle.gate.proofs.PlaceLaw.{tabled-at, tabled-is}
+use Rattle.gate.proofs.PlaceLaw.{tabled-at}
 use Rattle.gate.proofs.Theorems.{words-fit}
 use Rattle.circuit.specs.Circuits.{Gate, after, ends, heads, sent, tails, upto, words}
 

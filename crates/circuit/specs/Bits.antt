@@ -1,7 +1,6 @@
 -- Single bits that are shared modulo 2, and words made of them.
 use Prim.Native.Nat.{ℕ, zero, suc, _+_, _*_, _%_, _^_}
-use Rattle.ring.specs.Rings.{bitOf}
-use Rattle.gate.specs.Places.{Place, p0, p1, p2, three, total}
+use Rattle.gate.specs.Places.{Place, p0, p1, p2, three}
 use lib.Bits.{bitXor}
 
 -- XOR of two bits

@@ -1,9 +1,9 @@
 -- 01, order 5: the gates of a decomposition into l bits, over the low n = l + 2 bits of x_i = 4 a_i modulo p.
-use Prim.Native.Nat.{ℕ, suc, _+_, _*_, _-_, _%_, _^_}
-use mathlib.Core.List.{List, [], _∷_, _++_}
+use Prim.Native.Nat.{ℕ, _+_, _*_, _-_, _^_}
+use mathlib.Core.List.{List, _∷_, _++_}
 use Rattle.ring.specs.Rings.{bitOf}
 use Rattle.gate.specs.Places.{Place, p0, p1, p2}
-use Rattle.circuit.specs.Bits.{alone, gather, xor}
+use Rattle.circuit.specs.Bits.{alone, xor}
 use Rattle.circuit.specs.Circuits.{Gate, upto}
 
 -- "The majority of x, y, c is c XOR ((x XOR c) AND (y XOR c)), one gate": of shared bits, its share kept by `keep`

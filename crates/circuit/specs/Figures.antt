@@ -4,10 +4,10 @@ use mathlib.Core.List.{List, [], _∷_, map}
 use mathlib.Core.Path.{_≡_}
 use Rattle.ring.specs.Rings.{modulus}
 use Rattle.gate.specs.Gates.{gated}
-use Rattle.gate.specs.Places.{Place, p0, p1, p2, tabled, three, total}
+use Rattle.gate.specs.Places.{Place, p0, p1, p2, three, total}
 use Rattle.circuit.specs.Bits.{exclusive}
 use Rattle.circuit.specs.Circuits.{Circuit, result}
-use Rattle.circuit.specs.Orders.{conversion, decomposition}
+use Rattle.circuit.specs.Orders.{conversion, decomposition, lifted}
 
 -- a row: what the definitions give, and what the paper says
 pub record Figure : Type 0 where
@@ -25,9 +25,19 @@ tapes = three (1 ∷ 0 ∷ 1 ∷ 1 ∷ 0 ∷ []) (0 ∷ 1 ∷ 1 ∷ 0 ∷ 1 ∷ 
 abbrev run : Circuit → ℕ → ℕ → ℕ → Place → ℕ
 run C a b c = result C (three a b c) (three 0 0 0) tapes
 
--- "decomposes at l = 11 to", in ring 13
-abbrev decomposed : ℕ → ℕ → ℕ → List ℕ
-decomposed a b c = exclusive (run (decomposition 13 11) a b c) ∷ []
+-- in ring 13, the value, and what it "decomposes at l = 11 to"
+abbrev value : ℕ → ℕ → ℕ → ℕ
+value a b c = total (modulus 13) (three a b c)
+
+abbrev bits : ℕ → ℕ → ℕ → ℕ
+bits a b c = exclusive (run (decomposition 13 11) a b c)
+
+-- "V as a,b,c: gives", and with "X ="
+abbrev gives : ℕ → ℕ → ℕ → List ℕ
+gives a b c = value a b c ∷ bits a b c ∷ []
+
+abbrev givesWithX : ℕ → ℕ → ℕ → List ℕ
+givesWithX a b c = value a b c ∷ lifted 13 (three a b c) ∷ bits a b c ∷ []
 
 -- "to ring", of ring 13
 abbrev converted : ℕ → ℕ → ℕ → ℕ → List ℕ
@@ -38,13 +48,13 @@ row given wanted = record { given = given; wanted = wanted }
 
 unfoldable pub figures : List Figure
 figures =
-    row (decomposed 1 2 2) (5 ∷ [])
-    ∷ row (decomposed 8000 100 96) (5 ∷ [])
-    ∷ row (decomposed 8000 8000 387) (5 ∷ [])
-    ∷ row (decomposed 8190 1 0) (0 ∷ [])
-    ∷ row (decomposed 2047 0 0) (2047 ∷ [])
-    ∷ row (decomposed 2048 0 0) (1 ∷ [])
-    ∷ row (decomposed 2047 1 0) (0 ∷ [])
+    row (givesWithX 1 2 2) (5 ∷ 20 ∷ 5 ∷ [])
+    ∷ row (givesWithX 8000 100 96) (5 ∷ 8211 ∷ 5 ∷ [])
+    ∷ row (givesWithX 8000 8000 387) (5 ∷ 16402 ∷ 5 ∷ [])
+    ∷ row (givesWithX 8190 1 0) (0 ∷ 8191 ∷ 0 ∷ [])
+    ∷ row (gives 2047 0 0) (2047 ∷ 2047 ∷ [])
+    ∷ row (gives 2048 0 0) (2048 ∷ 1 ∷ [])
+    ∷ row (gives 2047 1 0) (2048 ∷ 0 ∷ [])
     ∷ row (converted 31 8000 100 96) (5 ∷ [])
     ∷ row (converted 31 2048 0 0) (2147477504 ∷ [])
     ∷ row (converted 13 2048 0 0) (2048 ∷ [])

@@ -5,3 +5,4 @@ pub mod Decompose
 pub mod Figures
 pub mod Lent
 pub mod Orders
+pub mod Sharings

@@ -1,6 +1,6 @@
 -- 01, "The nine orders": orders 2 to 8 as circuits. p is the modulus of width e, p' that of width f.
 use Prim.Native.Nat.{ℕ, zero, suc, _+_, _*_, _-_, _%_}
-use mathlib.Core.List.{List, [], _∷_, _++_, map}
+use mathlib.Core.List.{[], _∷_, _++_, map}
 use Rattle.ring.specs.Modular.{diff}
 use Rattle.ring.specs.Rings.{bitOf, modulus, quarter}
 use Rattle.gate.specs.Places.{Place, p0, p1, p2}
@@ -31,6 +31,14 @@ multiplication p =
       gates = record { modulus = p; left = λ i s. s .x; right = λ i s. s .y; absorb = λ i s z. record { x = z; y = 0 } } ∷ [];
       finish = λ i s. s .x;
     }
+
+-- a total of whole numbers
+abbrev pub summed : (Place → ℕ) → ℕ
+summed x = x p0 + x p1 + x p2
+
+-- orders 5 and 6: X = x_0 + x_1 + x_2 "as whole numbers", x_i = 4 a_i modulo p
+abbrev pub lifted : ℕ → (Place → ℕ) → ℕ
+lifted e a = summed (λ i. 4 * a i % modulus e)
 
 -- 5. into l bits
 unfoldable pub decomposition : ℕ → ℕ → Circuit

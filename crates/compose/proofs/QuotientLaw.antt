@@ -17,12 +17,12 @@ use Rattle.circuit.specs.Circuits.{after, ends, heads, starts, words}
 use Rattle.circuit.specs.Compose.{Summing, composeGates, summingStart}
 use Rattle.circuit.specs.Lent.{Left, Long}
 use Rattle.circuit.specs.Orders.{Quotient, conversion, quotientBit, quotientGate, quotientStart, wordBit}
-use Rattle.circuit.proofs.LentLaw.{ran-gate}
+use Rattle.circuit.specs.Sharings.{fourTimes, itemsAt}
+use Rattle.circuit.proofs.LentLaw.{left-of, partsFrom, putBack, ran-gate, ran-three, rooms}
+use Rattle.circuit.proofs.TurnLaw.{stored}
 use Rattle.compose.specs.Quotients.{Carries, Quoted, carried, carryWords, low, quotientWith}
 use Rattle.compose.specs.Sums.{Summed}
 use Rattle.compose.proofs.ImageLaw.{summed-as, worded}
-use Rattle.compose.proofs.RunsLaw.{left-of, partsFrom, putBack, ran-three, rooms}
-use Rattle.compose.proofs.StepLaw.{stored}
 use Rattle.compose.proofs.SumLaw.{compose-keeps}
 
 -- a bit added to nothing
@@ -33,19 +33,20 @@ alone-right : {b : ℕ} → b < 2 → xor 0 b ≡ b
 alone-right h = omega arith
 
 -- the gate on bits 0 as the code has them
-pub carries-of : {r t z : Sharing} {b₀ b₁ b₂ k₂ : ℕ} {T : Place → List ℕ} {c₀ c₁ c₂ d₀ d₁ d₂ : List ℕ}
+pub carries-of : {r t z : Sharing} {b₀ b₁ b₂ k₂ : ℕ} {t₀ t₁ t₂ c₀ c₁ c₂ d₀ d₁ d₂ : List ℕ}
     → b₀ ≡ bitOf (r .s0) 0 → b₁ ≡ bitOf (r .s1) 0 → b₂ ≡ bitOf (r .s2) 0
     → b₀ < 2 → b₁ < 2 → b₂ < 2
-    → parts t ≡ heads T
+    → t ≡ itemsAt 0 t₀ t₁ t₂
     → z ≡ sharing (gated 2 (three b₀ 0 b₂) (three 0 b₁ b₂) (parts t))
     → InRange 2 z
     → Sent z c₀ c₁ c₂ d₀ d₁ d₂
     → k₂ ≡ bitXor b₂ (z .s2)
-    → Carries (parts r) T (three c₀ c₁ c₂) (record { s0 = z .s0; s1 = z .s1; s2 = k₂ }) (three d₀ d₁ d₂)
+    → Carries (parts r) (three t₀ t₁ t₂) (three c₀ c₁ c₂) (record { s0 = z .s0; s1 = z .s1; s2 = k₂ }) (three d₀ d₁ d₂)
 unfolding carryWords
-carries-of {r} {t} {z} {b₀} {b₁} {b₂} {k₂} {T} {c₀} {c₁} {c₂} e₀ e₁ e₂ h₀ h₁ h₂ items is range out last =
+carries-of {r} {t} {z} {b₀} {b₁} {b₂} {k₂} {t₀} {t₁} {t₂} {c₀} {c₁} {c₂} e₀ e₁ e₂ h₀ h₁ h₂ items is range out last =
+    let T : Place → List ℕ = three t₀ t₁ t₂ in
     let sent : carryWords (parts r) (heads T) ≡ parts z
-    = rw (← items, ← e₀, ← e₁, ← e₂, alone-left h₀, alone-left h₁, alone-right h₂)
+    = rw (ap parts (sym items), ← e₀, ← e₁, ← e₂, alone-left h₀, alone-left h₁, alone-right h₂)
     (sym (ap parts is ∙ parts-sharing (gated 2 (three b₀ 0 b₂) (three 0 b₁ b₂) (parts t)))) in
     let word : (i : Place) → carryWords (parts r) (heads T) i ≡ parts z i = λ i. ap (λ (w : Place → ℕ). w i) sent in
     let k : Sharing = record { s0 = z .s0; s1 = z .s1; s2 = k₂ } in
@@ -98,7 +99,7 @@ two-bits i s (suc (suc j)) h = omega arith
 
 module _ (e f : ℕ) where
   pub converted : {a x q s z : Sharing} {t₀ t₁ t₂ c₀ c₁ c₂ d₀ d₁ d₂ h₀ h₁ h₂ : List ℕ}
-      → ((i : Place) → parts x i ≡ 4 * parts a i % modulus e)
+      → x ≡ fourTimes (modulus e) a
       → Quoted (parts x) (three t₀ t₁ t₂) (three c₀ c₁ c₂) q (three d₀ d₁ d₂)
       → Summed (composeGates wordBit (modulus f) 0 2) (tabled (λ i. summingStart (parts q i))) (partsFrom 1 t₀ t₁ t₂) (partsFrom 1 d₀ d₁ d₂) (parts s) (three h₀ h₁ h₂)
       → ((i : Place) → parts z i ≡ quarter f * diff (modulus f) (parts x i) (modulus e * parts s i) % modulus f)
@@ -116,7 +117,7 @@ module _ (e f : ℕ) where
       let ran = ran-three refl (first .ran) (record { states = refl; channels = second .channels }) in
       let last : (i : Place) → ends H mid U i .kept .x ≡ parts x i
       = λ i. ap (λ (k : Quotient). k .x) (compose-keeps quotientBit (modulus f) 0 2 mid U i) ∙ each (λ j. mid j .kept .x ≡ parts x j) refl refl refl i in
-      let begun : started x ≡ starts (conversion e f) (parts a) (parts a) = rw (four p0, four p1, four p2) in
+      let begun : started x ≡ starts (conversion e f) (parts a) (parts a) = rw four in
       let finished : parts z ≡ tabled (λ i. conversion e f .finish i (ends H mid U i))
       = rw (last p0, last p1, last p2, second .sums p0, second .sums p1, second .sums p2, settled p0, settled p1, settled p2) in
       left-of {C = conversion e f} (rw begun at ran) finished

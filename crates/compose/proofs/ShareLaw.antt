@@ -3,7 +3,7 @@ use Prim.Native.Nat.{ℕ, _+_, _*_, _%_, _<_}
 use mathlib.Core.Path.{_≡_, _∙_}
 use native.Mathlib.Nat.{add-mod-mod, mod-lt}
 use native.Mathlib.Omega.{arith}
-use lib.Bits.{bitXor, xor-lt}
+use lib.Bits.{bitXor}
 use lib.Dec.{lit<}
 use Rattle.ring.specs.Modular.{diff}
 use Rattle.ring.specs.Rings.{bitOf, modulus, modulusOf, quarter, quarterOf}
@@ -66,9 +66,6 @@ weighted m weight sum b {y₀} {y₁} {y₂} {z₀} {z₁} {z₂} p₀ e₀ p₁
     (rw (e₀, p₀, add-mod-mod)) (rw (e₁, p₁, add-mod-mod)) (rw (e₂, p₂, add-mod-mod))
 
 -- the two bits of q
-pub quotient-fits : {b carry : ℕ} → b < 2 → carry < 2 → bitXor b carry < 2
-quotient-fits {b} {carry} hb hc = xor-lt 1 b carry hb hc
-
 pub quotient-is : (r : ℕ) {carry low b : ℕ} → low ≡ bitOf r 0 → b ≡ bitOf r 1 → b < 2 → carry < 2 → low + 2 * bitXor b carry ≡ quotientWith r carry
 unfolding quotientWith
 quotient-is r e₀ e₁ hb hc = rw (xor-bit hb hc, e₀, e₁)

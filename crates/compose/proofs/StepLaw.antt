@@ -1,43 +1,19 @@
--- One gate on lent runs: the items that it takes, the words that it sends, and what becomes of them.
-use Prim.Native.Nat.{ℕ, _<_}
+-- One gate on lent runs: what becomes of the words that it sends.
+use Prim.Native.Nat.{ℕ}
 use mathlib.Core.List.{List}
 use mathlib.Core.Path.{_≡_, ap, sym}
-use native.Mathlib.Nat.{add-zero}
-use lib.ListN.{set}
-use lib.Seq.{getD-drop}
 use Rattle.gate.specs.Gates.{gated}
-use Rattle.gate.specs.Places.{InRange, Place, Sent, p0, p1, p2, parts, sharing, three}
+use Rattle.gate.specs.Places.{Place, Sent, parts, sharing, three}
 use Rattle.gate.specs.declared.sharing.Sharing.{Sharing}
 use Rattle.gate.proofs.PlaceLaw.{each}
-use Rattle.circuit.specs.Circuits.{after, heads, starts, words}
+use Rattle.circuit.specs.Circuits.{after, starts, words}
 use Rattle.circuit.specs.Compose.{joined}
-use Rattle.circuit.specs.Lent.{ItemsBelow, Left, Long}
+use Rattle.circuit.specs.Lent.{Left, Long}
 use Rattle.circuit.specs.Orders.{multiplication}
-use Rattle.circuit.proofs.LentLaw.{part-is, ran-gate}
-use Rattle.compose.specs.Steps.{Joins, itemsAt}
-use Rattle.compose.proofs.RunsLaw.{left-of, partsFrom, rooms}
-
--- the items that a gate takes are in range
-pub items-in : {m n k : ℕ} {t : Sharing} {t₀ t₁ t₂ : List ℕ}
-    → k < n → parts t ≡ itemsAt k (three t₀ t₁ t₂) → ItemsBelow m n t₀ t₁ t₂ → InRange m t
-items-in {k = k} inside is h =
-    record {
-      zero = rw (ap (λ (x : Place → ℕ). x p0) is) (h .zero k inside);
-      one = rw (ap (λ (x : Place → ℕ). x p1) is) (h .one k inside);
-      two = rw (ap (λ (x : Place → ℕ). x p2) is) (h .two k inside);
-    }
-
--- item k is the next one of the part from k on
-pub items-next : (k : ℕ) (t₀ t₁ t₂ : List ℕ)
-    → heads (partsFrom k t₀ t₁ t₂) ≡ itemsAt k (three t₀ t₁ t₂)
-items-next k t₀ t₁ t₂ =
-    rw (part-is k t₀, part-is k t₁, part-is k t₂, getD-drop k t₀ 0 0, getD-drop k t₁ 0 0, getD-drop k t₂ 0 0, add-zero)
-
--- the words that a gate sends, by place
-pub stored : {z : Sharing} (x : Place → ℕ) {c₀ c₁ c₂ d₀ d₁ d₂ : List ℕ}
-    → z ≡ sharing x → Sent z c₀ c₁ c₂ d₀ d₁ d₂ → (i : Place) → three d₀ d₁ d₂ i ≡ set (three c₀ c₁ c₂ i) 0 (x i)
-stored x {c₀ = c₀} {c₁ = c₁} {c₂ = c₂} {d₀ = d₀} {d₁ = d₁} {d₂ = d₂} is sent =
-    each (λ i. three d₀ d₁ d₂ i ≡ set (three c₀ c₁ c₂ i) 0 (x i)) (rw is at (sent .zero)) (rw is at (sent .one)) (rw is at (sent .two))
+use Rattle.circuit.specs.Sharings.{itemsAt}
+use Rattle.circuit.proofs.LentLaw.{left-of, ran-gate, rooms}
+use Rattle.circuit.proofs.TurnLaw.{stored}
+use Rattle.compose.specs.Steps.{Joins}
 
 -- each place's join of its own shares
 pub joins : {m : ℕ} (u v : Sharing) {t z : Sharing} {h₀ h₁ h₂ : ℕ} {c₀ c₁ c₂ d₀ d₁ d₂ : List ℕ}
@@ -55,15 +31,15 @@ joins {m} u v {t} {z} {h₀} {h₁} {h₂} is sent e₀ e₁ e₂ =
     }
 
 -- order 4 is its one gate
-pub multiplied : (m : ℕ) {x y t z : Sharing} {T : Place → List ℕ} {c₀ c₁ c₂ d₀ d₁ d₂ : List ℕ}
+pub multiplied : (m : ℕ) {x y t z : Sharing} {t₀ t₁ t₂ c₀ c₁ c₂ d₀ d₁ d₂ : List ℕ}
     → Long 1 c₀ c₁ c₂
-    → parts t ≡ heads T
+    → t ≡ itemsAt 0 t₀ t₁ t₂
     → z ≡ sharing (gated m (parts x) (parts y) (parts t))
     → Sent z c₀ c₁ c₂ d₀ d₁ d₂
-    → Left (multiplication m) (parts x) (parts y) T (three c₀ c₁ c₂) z (three d₀ d₁ d₂)
+    → Left (multiplication m) (parts x) (parts y) (three t₀ t₁ t₂) (three c₀ c₁ c₂) z (three d₀ d₁ d₂)
 unfolding multiplication words after gated
-multiplied m {x} {y} {t} {T = T} {c₀ = c₀} {c₁ = c₁} {c₂ = c₂} room items is sent =
+multiplied m {x} {y} {t} {t₀ = t₀} {t₁ = t₁} {t₂ = t₂} {c₀ = c₀} {c₁ = c₁} {c₂ = c₂} room items is sent =
     let w : Place → ℕ = gated m (parts x) (parts y) (parts t) in
     left-of {C = multiplication m}
-    (ran-gate _ (starts (multiplication m) (parts x) (parts y)) T (three c₀ c₁ c₂) w (ap (gated m (parts x) (parts y)) (sym items)) (rooms room) (stored w is sent))
+    (ran-gate _ (starts (multiplication m) (parts x) (parts y)) (three t₀ t₁ t₂) (three c₀ c₁ c₂) w (ap (λ (i : Sharing). gated m (parts x) (parts y) (parts i)) (sym items)) (rooms room) (stored w is sent))
     (ap parts is)

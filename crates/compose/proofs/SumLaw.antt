@@ -13,9 +13,9 @@ use Rattle.circuit.specs.Circuits.{Gate, after, ends, sent}
 use Rattle.circuit.specs.Compose.{Summing, composeGates, firstGate, secondGate, summingStart}
 use Rattle.circuit.specs.Lent.{Left, Ran}
 use Rattle.circuit.specs.Orders.{composition, wordBit}
+use Rattle.circuit.proofs.LentLaw.{left-of, partsFrom, putBack, ran-three}
 use Rattle.circuit.proofs.RunLaw.{drops, ends-append}
 use Rattle.compose.specs.Sums.{Holds, Summed, bitGates}
-use Rattle.compose.proofs.RunsLaw.{left-of, partsFrom, putBack, ran-three}
 
 module _ {K : Type 0} (read : Place → K → ℕ → ℕ) (m from : ℕ) where
   pub length-compose : (k : ℕ) → length (composeGates read m from k) ≡ 2 * k

@@ -6,7 +6,7 @@ use native.Mathlib.Nat.{add-mod-mod, mod-add-mod, mod-eq-of-lt, mod-lt}
 use native.Mathlib.Omega.{arith}
 use lib.ListN.{length}
 use lib.Pow.{pow-add}
-use borrow.Rule.Slice.PartMut.{midOf, putMid, same-len-mid}
+use borrow.Rule.Slice.PartMut.{same-len-mid}
 use Rattle.ring.specs.Rings.{bitOf}
 use Rattle.gate.specs.Gates.{gated}
 use Rattle.gate.specs.Places.{InRange, Place, p0, p1, p2, parts, tabled, three}
@@ -16,11 +16,11 @@ use Rattle.circuit.specs.Circuits.{after, heads, words}
 use Rattle.circuit.specs.Compose.{Summing, composeGates, firstGate, joined, secondGate, summingStart}
 use Rattle.circuit.specs.Lent.{ItemsBelow, Long}
 use Rattle.circuit.specs.Orders.{wordBit}
-use Rattle.circuit.proofs.LentLaw.{ran-gate}
-use Rattle.compose.specs.Steps.{Joins, itemsAt}
+use Rattle.circuit.specs.Sharings.{itemsAt, zeros}
+use Rattle.circuit.proofs.LentLaw.{AsLong, below-less, long-less, long-same, partFrom, partsFrom, putBack, putPart, ran-gate, ran-three, rooms}
+use Rattle.circuit.proofs.TurnLaw.{items-next}
+use Rattle.compose.specs.Steps.{Joins}
 use Rattle.compose.specs.Sums.{Holds, JoinsBit, Summed, bitGates}
-use Rattle.compose.proofs.RunsLaw.{below-less, long-less, partsFrom, putBack, ran-three, rooms}
-use Rattle.compose.proofs.StepLaw.{items-next}
 use Rattle.compose.proofs.SumLaw.{more-summed, none-summed, ran-summed}
 
 -- one bit: the two joins are its gates
@@ -75,9 +75,9 @@ module _ (m j weight : ℕ) (w : Sharing) {sum : Place → ℕ} {s : Place → S
 
   bit-summed : {half b t t′ : Sharing} {z : Place → ℕ} {c₀ c₁ c₂ t₀ t₁ t₂ d₀ d₁ d₂ h₀ h₁ h₂ : List ℕ}
       → Long 1 c₀ c₁ c₂
-      → Long 1 (midOf 1 (length d₀ - 1) d₀) (midOf 1 (length d₁ - 1) d₁) (midOf 1 (length d₂ - 1) d₂)
-      → parts t ≡ itemsAt 0 (three t₀ t₁ t₂)
-      → parts t′ ≡ itemsAt 1 (three t₀ t₁ t₂)
+      → Long 1 (partFrom 1 d₀) (partFrom 1 d₁) (partFrom 1 d₂)
+      → t ≡ itemsAt 0 t₀ t₁ t₂
+      → t′ ≡ itemsAt 1 t₀ t₁ t₂
       → Joins m one two (parts t) (three c₀ c₁ c₂) half (three d₀ d₁ d₂)
       → Joins m (parts half) last (parts t′) (partsFrom 1 d₀ d₁ d₂) b (three h₀ h₁ h₂)
       → ((i : Place) → z i ≡ (sum i + weight * parts b i) % m)
@@ -88,17 +88,17 @@ module _ (m j weight : ℕ) (w : Sharing) {sum : Place → ℕ} {s : Place → S
       let U : Place → List ℕ = partsFrom 1 t₀ t₁ t₂ in
       let x : Place → ℕ = gated m one two (parts t) in
       let y : Place → ℕ = gated m (parts half) last (parts t′) in
-      let later : heads U ≡ parts t′ = items-next 1 t₀ t₁ t₂ ∙ sym items′ in
-      let first = ran-gate (firstGate wordBit m j) s T (three c₀ c₁ c₂) x (rw (← items) (first-words (parts t))) (rooms room) (joins .stored) in
+      let later : heads U ≡ parts t′ = ap parts (items-next 1 t₀ t₁ t₂ ∙ sym items′) in
+      let first = ran-gate (firstGate wordBit m j) s T (three c₀ c₁ c₂) x (rw (ap parts (sym items)) (first-words (parts t))) (rooms room) (joins .stored) in
       let second = ran-gate (secondGate wordBit m j weight) (halfway x (parts half) (joins .is)) U _ y
       (rw later (second-words x (parts half) (joins .is) (parts t′))) (rooms room′) (joins′ .stored) in
       ran-summed (ran-three refl first second) (second-sums x (parts half) (joins .is) y (parts b) z (joins′ .is) total)
 
 pub bit-joined : {m j : ℕ} {w half b t t′ : Sharing} {c₀ c₁ c₂ t₀ t₁ t₂ d₀ d₁ d₂ h₀ h₁ h₂ : List ℕ}
     → Long 1 c₀ c₁ c₂
-    → Long 1 (midOf 1 (length d₀ - 1) d₀) (midOf 1 (length d₁ - 1) d₁) (midOf 1 (length d₂ - 1) d₂)
-    → parts t ≡ itemsAt 0 (three t₀ t₁ t₂)
-    → parts t′ ≡ itemsAt 1 (three t₀ t₁ t₂)
+    → Long 1 (partFrom 1 d₀) (partFrom 1 d₁) (partFrom 1 d₂)
+    → t ≡ itemsAt 0 t₀ t₁ t₂
+    → t′ ≡ itemsAt 1 t₀ t₁ t₂
     → Joins m (three (bitOf (w .s0) j) 0 0) (three 0 (bitOf (w .s1) j) 0) (parts t) (three c₀ c₁ c₂) half (three d₀ d₁ d₂)
     → Joins m (parts half) (three 0 0 (bitOf (w .s2) j)) (parts t′) (partsFrom 1 d₀ d₁ d₂) b (three h₀ h₁ h₂)
     → JoinsBit m j (parts w) (three t₀ t₁ t₂) (three c₀ c₁ c₂) (parts b) (putBack 1 d₀ d₁ d₂ h₀ h₁ h₂)
@@ -113,25 +113,20 @@ doubled m k is sum =
 
 -- k bits of w are composed: from the runs t and c to the sum and the runs d
 pub record Reached (m from count : ℕ) (w : Sharing) (t₀ t₁ t₂ c₀ c₁ c₂ : List ℕ) (k weight : ℕ) (sum : Sharing) (d₀ d₁ d₂ : List ℕ) : Type 0 where
-  pub zero : length d₀ ≡ length c₀
-  pub one : length d₁ ≡ length c₁
-  pub two : length d₂ ≡ length c₂
+  pub same : AsLong c₀ c₁ c₂ d₀ d₁ d₂
   pub most : k ≤ count
   pub weighs : weight ≡ 2 ^ k % m
   pub range : InRange m sum
   pub summed : Summed (composeGates wordBit m from k) (tabled (λ i. summingStart (parts w i))) (three t₀ t₁ t₂) (three c₀ c₁ c₂) (parts sum) (three d₀ d₁ d₂)
 
 pub at-start : (m from count : ℕ) {w none : Sharing} {t₀ t₁ t₂ c₀ c₁ c₂ : List ℕ}
-    → 1 < m → parts none ≡ three 0 0 0 → Reached m from count w t₀ t₁ t₂ c₀ c₁ c₂ 0 1 none c₀ c₁ c₂
+    → 1 < m → none ≡ zeros → Reached m from count w t₀ t₁ t₂ c₀ c₁ c₂ 0 1 none c₀ c₁ c₂
 at-start m from count {w} {none} {t₀} {t₁} {t₂} {c₀} {c₁} {c₂} wide is =
-    let at : (i : Place) → parts none i ≡ three 0 0 0 i = λ i. ap (λ (x : Place → ℕ). x i) is in
     record {
-      zero = refl;
-      one = refl;
-      two = refl;
+      same = record { zero = refl; one = refl; two = refl };
       most = omega arith;
       weighs = sym (mod-eq-of-lt wide);
-      range = record { zero = omega (arith, at p0); one = omega (arith, at p1); two = omega (arith, at p2) };
+      range = rw is (record { zero = omega arith; one = omega arith; two = omega arith });
       summed = rw is (none-summed m from w (three t₀ t₁ t₂) (three c₀ c₁ c₂));
     }
 
@@ -142,18 +137,20 @@ module _ {m from count : ℕ} {w : Sharing} {t₀ t₁ t₂ c₀ c₁ c₂ : Lis
       → k < count
       → next ≡ (weight + weight) % m
       → InRange m z
-      → length e₀ ≡ length (midOf (2 * k) (length d₀ - 2 * k) d₀)
-      → length e₁ ≡ length (midOf (2 * k) (length d₁ - 2 * k) d₁)
-      → length e₂ ≡ length (midOf (2 * k) (length d₂ - 2 * k) d₂)
+      → length e₀ ≡ length (partFrom (2 * k) d₀)
+      → length e₁ ≡ length (partFrom (2 * k) d₁)
+      → length e₂ ≡ length (partFrom (2 * k) d₂)
       → JoinsBit m (from + k) (parts w) (partsFrom (2 * k) t₀ t₁ t₂) (partsFrom (2 * k) d₀ d₁ d₂) (parts b) (three e₀ e₁ e₂)
       → ((i : Place) → parts z i ≡ (parts sum i + weight * parts b i) % m)
       → Reached m from count w t₀ t₁ t₂ c₀ c₁ c₂ (k + 1) next z
-      (putMid (2 * k) (length d₀ - 2 * k) d₀ e₀) (putMid (2 * k) (length d₁ - 2 * k) d₁ e₁) (putMid (2 * k) (length d₂ - 2 * k) d₂ e₂)
+      (putPart (2 * k) d₀ e₀) (putPart (2 * k) d₁ e₁) (putPart (2 * k) d₂ e₂)
   went-on {next} {b} {z} {e₀} {e₁} {e₂} more twice range l₀ l₁ l₂ bit total =
       record {
-        zero = same-len-mid (2 * k) (length d₀ - 2 * k) d₀ e₀ l₀ ∙ reached .zero;
-        one = same-len-mid (2 * k) (length d₁ - 2 * k) d₁ e₁ l₁ ∙ reached .one;
-        two = same-len-mid (2 * k) (length d₂ - 2 * k) d₂ e₂ l₂ ∙ reached .two;
+        same = record {
+          zero = same-len-mid (2 * k) (length d₀ - 2 * k) d₀ e₀ l₀ ∙ reached .same .zero;
+          one = same-len-mid (2 * k) (length d₁ - 2 * k) d₁ e₁ l₁ ∙ reached .same .one;
+          two = same-len-mid (2 * k) (length d₂ - 2 * k) d₂ e₂ l₂ ∙ reached .same .two;
+        };
         most = omega arith;
         weighs = doubled m k (reached .weighs) twice;
         range = range;
@@ -183,5 +180,5 @@ turn-of {m} {from} {count} {k = k} h more few masks items room =
       small = rw (h .weighs) (mod-lt (2 ^ k) (omega (arith, h .range)));
       masks = long-less (omega arith) masks;
       items = below-less (omega arith) items;
-      room = record { zero = omega arith; one = omega arith; two = omega arith };
+      room = long-less (omega arith) (long-same (h .same) room);
     }

@@ -2,15 +2,11 @@
 use Prim.Native.Nat.{ℕ}
 use mathlib.Core.List.{List}
 use mathlib.Core.Path.{_≡_}
-use lib.ListN.{getD, set}
+use lib.ListN.{set}
 use Rattle.gate.specs.Gates.{gated}
-use Rattle.gate.specs.Places.{Place, parts, tabled}
+use Rattle.gate.specs.Places.{Place, parts}
 use Rattle.gate.specs.declared.sharing.Sharing.{Sharing}
 use Rattle.circuit.specs.Compose.{joined}
-
--- "The gate", "item t0, t1, t2 of each strand": item k of each mask tape
-abbrev pub itemsAt : ℕ → (Place → List ℕ) → Place → ℕ
-itemsAt k T = tabled (λ i. getD (T i) k 0)
 
 -- order 8, "by u + v - 2uv": the gate on u and v, with items t, leaves the shares h, and its words at the heads of the channels
 pub record Joins (m : ℕ) (u v t : Place → ℕ) (c : Place → List ℕ) (h : Sharing) (d : Place → List ℕ) : Type 0 where

@@ -8,7 +8,8 @@ ghost use Rattle.circuit.specs.Lent.{ItemsBelow, Left, Long};
 ghost use Rattle.circuit.specs.Orders.{composition, wordBit};
 ghost use Rattle.compose.specs.Steps.{Joins};
 ghost use Rattle.compose.specs.Sums.{JoinsBit, Summed};
-use crate::steps::items;
+use circuit::items_at;
+use circuit::zeros;
 use gate::Sharing;
 use gate::ring_gate;
 use ring::Ring;
@@ -126,9 +127,9 @@ fn join_bit(
     ensures is { λ b. ⌜ JoinsBit (modulusOf r) j (parts w) (three (now (m0 .entry)) (now (m1 .entry)) (now (m2 .entry))) (three (now (c0 .entry)) (now (c1 .entry)) (now (c2 .entry))) (parts b) (three (now (c0 .exit)) (now (c1 .exit)) (now (c2 .exit))) ⌝ }
     ensures below { λ b. ⌜ InRange (modulusOf r) b ⌝ }
 {
-    let t0 = items(m0, m1, m2, 0);
+    let t0 = items_at(m0, m1, m2, 0);
     let half = join_first(r, w, j, t0, c0, c1, c2);
-    let t1 = items(m0, m1, m2, 1);
+    let t1 = items_at(m0, m1, m2, 1);
     join_last(r, w, j, half, t1, &mut c0[1..], &mut c1[1..], &mut c2[1..])
 }
 
@@ -144,17 +145,6 @@ fn add_weighted(r: Ring, sum: Sharing, weight: u64, b: Sharing) -> Sharing
     let s1 = r.add(sum.s1, r.mul(weight, b.s1));
     let s2 = r.add(sum.s2, r.mul(weight, b.s2));
     Sharing { s0, s1, s2 }
-}
-
-// The sum of no bits.
-fn no_sum() -> Sharing
-    ensures { λ z. ⌜ parts z ≡ three 0 0 0 ⌝ }
-{
-    Sharing {
-        s0: 0,
-        s1: 0,
-        s2: 0,
-    }
 }
 
 // Bits from, from + 1, .. of w, count of them, with weights 1, 2, 4, .. modulo p.
@@ -177,7 +167,7 @@ pub fn compose_bits(
     ensures is { λ z. ⌜ Summed (composeGates wordBit (modulusOf r) from count) (tabled (λ i. summingStart (parts w i))) (three (now (m0 .entry)) (now (m1 .entry)) (now (m2 .entry))) (three (now (c0 .entry)) (now (c1 .entry)) (now (c2 .entry))) (parts z) (three (now (c0 .exit)) (now (c1 .exit)) (now (c2 .exit))) ⌝ }
     ensures below { λ z. ⌜ InRange (modulusOf r) z ⌝ }
 {
-    let mut sum = no_sum();
+    let mut sum = zeros();
     let mut weight = 1;
     for k in 0..count {
         let at = (2 * k) as usize;

@@ -9,7 +9,8 @@ ghost use Rattle.circuit.specs.Lent.{ItemsBelow, Left, Long};
 ghost use Rattle.circuit.specs.Orders.{conversion};
 ghost use Rattle.compose.specs.Quotients.{Carries, Quoted, quotientWith};
 use crate::bits::compose_bits;
-use crate::steps::items;
+use circuit::four_times;
+use circuit::items_at;
 use gate::Sharing;
 use gate::bit_gate;
 use ring::Ring;
@@ -51,7 +52,7 @@ fn low_carry(
         s1: b1,
         s2: b2,
     };
-    let t = items(m0, m1, m2, 0);
+    let t = items_at(m0, m1, m2, 0);
     let z = bit_gate(x, y, t, c0, c1, c2);
     Sharing {
         s0: z.s0,
@@ -97,17 +98,6 @@ fn quotient(
     let s0 = quotient_share(r0, k.s0);
     let s1 = quotient_share(r1, k.s1);
     let s2 = quotient_share(r2, k.s2);
-    Sharing { s0, s1, s2 }
-}
-
-// The x_i, four times the sub-shares.
-fn four_times(e: Ring, a: Sharing) -> Sharing
-    requires { ⌜ InRange (modulusOf e) a ⌝ }
-    ensures { λ x. ⌜ ((i : Place) → parts x i ≡ 4 * parts a i % modulusOf e) ⌝ }
-{
-    let s0 = e.four_times(a.s0);
-    let s1 = e.four_times(a.s1);
-    let s2 = e.four_times(a.s2);
     Sharing { s0, s1, s2 }
 }
 

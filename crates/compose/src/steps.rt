@@ -1,26 +1,12 @@
-// Items of the mask tapes, and the order that is one gate.
-ghost use mathlib.Core.Path.{_≡_};
-ghost use Prim.Native.Nat.{_+_};
+// The order that is one gate.
 ghost use Rattle.gate.specs.Places.{InRange, parts, three};
 ghost use Rattle.ring.specs.Rings.{modulusOf};
 ghost use Rattle.circuit.specs.Lent.{ItemsBelow, Left, Long};
 ghost use Rattle.circuit.specs.Orders.{multiplication};
-ghost use Rattle.compose.specs.Steps.{itemsAt};
+use circuit::items_at;
 use gate::Sharing;
 use gate::ring_gate;
 use ring::Ring;
-
-// Item k of each mask tape.
-pub fn items(m0: &[u64], m1: &[u64], m2: &[u64], k: usize) -> Sharing
-    requires { ⌜ Long (k + 1) (now m0) (now m1) (now m2) ⌝ }
-    ensures { λ t. ⌜ parts t ≡ itemsAt k (three (now (m0 .entry)) (now (m1 .entry)) (now (m2 .entry))) ⌝ }
-{
-    Sharing {
-        s0: m0[k],
-        s1: m1[k],
-        s2: m2[k],
-    }
-}
 
 // Order 4: one gate, whose words are the new sub-shares.
 pub fn multiply(
@@ -42,6 +28,6 @@ pub fn multiply(
     ensures is { λ z. ⌜ Left (multiplication (modulusOf r)) (parts x) (parts y) (three (now (m0 .entry)) (now (m1 .entry)) (now (m2 .entry))) (three (now (c0 .entry)) (now (c1 .entry)) (now (c2 .entry))) z (three (now (c0 .exit)) (now (c1 .exit)) (now (c2 .exit))) ⌝ }
     ensures below { λ z. ⌜ InRange (modulusOf r) z ⌝ }
 {
-    let t = items(m0, m1, m2, 0);
+    let t = items_at(m0, m1, m2, 0);
     ring_gate(r, x, y, t, c0, c1, c2)
 }

@@ -1,5 +1,5 @@
 -- Order 5's gates on states that are made of words: their factors are bits of the words.
-use Prim.Native.Nat.{ℕ, _+_, _/_, _<_}
+use Prim.Native.Nat.{ℕ, _+_, _/_}
 use mathlib.Core.List.{List}
 use mathlib.Core.Path.{_≡_, ap, ap₂, fun-ext, sym, _∙_}
 use native.Mathlib.Omega.{arith}
@@ -11,13 +11,11 @@ use Rattle.gate.specs.declared.sharing.Sharing.{Sharing}
 use Rattle.circuit.specs.Bits.{gather, xor}
 use Rattle.circuit.specs.Circuits.{after, words}
 use Rattle.circuit.specs.Decompose.{Digits, carryGate, digit, raisingGate, runningGate, sumBit, totalBit, zeroGate}
-use Rattle.decompose.specs.Turns.{Turned, majorityWords}
-use Rattle.decompose.specs.Words.{bitsAt, bitsXor, digitsOf, finished, none, stored, totalled, upper}
-use Rattle.decompose.proofs.WordLaw.{bit-lt, bit-upper, bit-xor, gather-is}
-
--- a bit known at one place is its own sum
-alone-sum : (b : ℕ) → b < 2 → (xor (xor b 0) 0 ≡ b) × (xor (xor 0 b) 0 ≡ b) × (xor (xor 0 0) b ≡ b)
-alone-sum b h = (omega arith, omega arith, omega arith)
+use Rattle.circuit.specs.Lent.{Turned}
+use Rattle.circuit.specs.Sharings.{zeros}
+use Rattle.circuit.proofs.BitsLaw.{bit-lt, bit-upper, bit-xor, gather-bits, gather-same}
+use Rattle.decompose.specs.Turns.{majorityWords}
+use Rattle.decompose.specs.Words.{bitsAt, bitsXor, digitsOf, finished, stored, totalled, upper}
 
 -- the sum bit and both carries of a place are the total's bit
 total-at : {n : ℕ} (a b c j : ℕ) → n ≡ bitOf a j → xor (xor n (bitOf b j)) (bitOf c j) ≡ bitOf (bitXor (bitXor a b) c) j
@@ -30,14 +28,15 @@ gathered : (l total raising : ℕ) {b : ℕ → ℕ} → ((j : ℕ) → b j ≡ 
     → gather l (λ j. xor (b j) (bitOf raising j)) ≡ upper total raising l
 unfolding upper
 gathered l total raising {b} e =
-    gather-is l (bitXor (total / 4) raising)
-    (λ j. ap (λ (n : ℕ). xor n (bitOf raising j)) (e j ∙ sym (bit-upper total j)) ∙ sym (bit-xor (total / 4) raising j))
+    gather-same l (λ j h. ap (λ (n : ℕ). xor n (bitOf raising j)) (e j ∙ sym (bit-upper total j)) ∙ sym (bit-xor (total / 4) raising j))
+    ∙ gather-bits l (bitXor (total / 4) raising)
 
 module _ (x carries running raising : Sharing) where
+  -- a bit known at one place is its own sum
   sum-bit : (j : ℕ) (i : Place) → sumBit j i (digitsOf x carries running raising i) ≡ parts (bitsAt x j) i
-  sum-bit j p0 = alone-sum (bitOf (x .s0) j) (bit-lt (x .s0) j) .0
-  sum-bit j p1 = alone-sum (bitOf (x .s1) j) (bit-lt (x .s1) j) .1
-  sum-bit j p2 = alone-sum (bitOf (x .s2) j) (bit-lt (x .s2) j) .2
+  sum-bit j p0 = omega (arith, bit-lt (x .s0) j)
+  sum-bit j p1 = omega (arith, bit-lt (x .s1) j)
+  sum-bit j p2 = omega (arith, bit-lt (x .s2) j)
 
   total-bit : (j : ℕ) (i : Place)
       → totalBit j i (digitsOf x carries running raising i) ≡ parts (bitsAt (totalled x carries running) j) i
@@ -78,14 +77,14 @@ pub carry-turned : {x b carry carries r t : Sharing} (j : ℕ) {c₀ c₁ c₂ d
     → carry ≡ bitsXor (atTwo b) (majorityWords (atZero b) (atOne b) (atTwo b) t)
     → Sent (majorityWords (atZero b) (atOne b) (atTwo b) t) c₀ c₁ c₂ d₀ d₁ d₂
     → r ≡ stored carries carry (j + 1)
-    → Turned (carryGate j) (digitsOf x carries none none) t (digitsOf x r none none) c₀ c₁ c₂ d₀ d₁ d₂
+    → Turned (carryGate j) (digitsOf x carries zeros zeros) t (digitsOf x r zeros zeros) c₀ c₁ c₂ d₀ d₁ d₂
 unfolding carryGate words after
 carry-turned {x} {b} {carry} {carries} {r} {t} j {c₀} {c₁} {c₂} {d₀} {d₁} {d₂} hb hc sent hr =
     let turned : r ≡ stored carries (bitsXor (atTwo (bitsAt x j)) (majorityWords (atZero (bitsAt x j)) (atOne (bitsAt x j)) (atTwo (bitsAt x j)) t)) (j + 1)
     = rw (hr, hc, hb) in
     record {
-      states = sym (ap (λ (w : Sharing). digitsOf x w none none) turned);
-      sent = rw hb at sent;
+      states = sym (ap (λ (w : Sharing). digitsOf x w zeros zeros) turned);
+      stored = rw hb at sent;
     }
 
 -- (ii) the running gate
@@ -96,18 +95,18 @@ pub running-turned : {x carries running sum second third carry r t : Sharing} (j
     → carry ≡ bitsXor third (majorityWords sum second third t)
     → Sent (majorityWords sum second third t) c₀ c₁ c₂ d₀ d₁ d₂
     → r ≡ stored running carry (j + 1)
-    → Turned (runningGate j) (digitsOf x carries running none) t (digitsOf x carries r none) c₀ c₁ c₂ d₀ d₁ d₂
+    → Turned (runningGate j) (digitsOf x carries running zeros) t (digitsOf x carries r zeros) c₀ c₁ c₂ d₀ d₁ d₂
 unfolding runningGate words after
 running-turned {x} {carries} {running} {sum} {second} {third} {carry} {r} {t} j {c₀} {c₁} {c₂} {d₀} {d₁} {d₂} h₁ h₂ h₃ hc sent hr =
-    let s : Place → Digits = digitsOf x carries running none in
+    let s : Place → Digits = digitsOf x carries running zeros in
     let lefts : tabled (λ i. xor (sumBit j i (s i)) (bitOf (s i .running) j)) ≡ parts (bitsXor (bitsAt x j) (bitsAt running j))
-    = ap tabled (fun-ext (λ i. ap (λ (n : ℕ). xor n (bitOf (s i .running) j)) (sum-bit x carries running none j i))) in
+    = ap tabled (fun-ext (λ i. ap (λ (n : ℕ). xor n (bitOf (s i .running) j)) (sum-bit x carries running zeros j i))) in
     let word : (Place → ℕ) → Sharing = λ left. sharing (gated 2 left (parts (bitsXor (bitsAt carries j) (bitsAt running j))) (parts t)) in
     let said : majorityWords sum second third t ≡ word (tabled (λ i. xor (sumBit j i (s i)) (bitOf (s i .running) j)))
     = rw (h₁, h₂, h₃, lefts) in
     record {
-      states = sym (ap (λ (w : Sharing). digitsOf x carries w none) (hr ∙ ap (λ (b : Sharing). stored running b (j + 1)) (hc ∙ ap₂ bitsXor h₃ said)));
-      sent = rw said at sent;
+      states = sym (ap (λ (w : Sharing). digitsOf x carries w zeros) (hr ∙ ap (λ (b : Sharing). stored running b (j + 1)) (hc ∙ ap₂ bitsXor h₃ said)));
+      stored = rw said at sent;
     }
 
 -- (iii) the gate for z
@@ -119,18 +118,18 @@ pub zero-turned : {x carries running total left right both z r t : Sharing} {c�
     → both ≡ bitsXor left right
     → r ≡ bitsXor both z
     → total ≡ totalled x carries running
-    → Turned zeroGate (digitsOf x carries running none) t (digitsOf x carries running r) c₀ c₁ c₂ d₀ d₁ d₂
+    → Turned zeroGate (digitsOf x carries running zeros) t (digitsOf x carries running r) c₀ c₁ c₂ d₀ d₁ d₂
 unfolding zeroGate words after
 zero-turned {x} {carries} {running} {total} {left} {right} {both} {z} {r} {t} hl hr hz sent hb h e =
-    let s : Place → Digits = digitsOf x carries running none in
+    let s : Place → Digits = digitsOf x carries running zeros in
     let T : ℕ → Place → ℕ = λ j. tabled (λ i. totalBit j i (s i)) in
-    let bits : (j : ℕ) → T j ≡ parts (bitsAt total j) = λ j. ap tabled (fun-ext (total-bit x carries running none j)) ∙ ap (λ (w : Sharing). parts (bitsAt w j)) (sym e) in
+    let bits : (j : ℕ) → T j ≡ parts (bitsAt total j) = λ j. ap tabled (fun-ext (total-bit x carries running zeros j)) ∙ ap (λ (w : Sharing). parts (bitsAt w j)) (sym e) in
     let said : z ≡ sharing (gated 2 (T 0) (T 1) (parts t)) = rw (hz, hl, hr, bits 0, bits 1) in
     let done : r ≡ bitsXor (bitsXor (sharing (T 0)) (sharing (T 1))) (sharing (gated 2 (T 0) (T 1) (parts t)))
     = h ∙ ap₂ bitsXor (hb ∙ ap₂ bitsXor (hl ∙ ap sharing (sym (bits 0))) (hr ∙ ap sharing (sym (bits 1)))) said in
     record {
       states = sym (ap (λ (w : Sharing). digitsOf x carries running w) done);
-      sent = rw said at sent;
+      stored = rw said at sent;
     }
 
 -- (iv) a half adder
@@ -150,5 +149,5 @@ raising-turned {x} {carries} {running} {total} {raising} {left} {right} {z} {r} 
     let said : z ≡ sharing (gated 2 T (parts (bitsAt raising j)) (parts t)) = rw (hz, hl, hr, bits) in
     record {
       states = sym (ap (λ (w : Sharing). digitsOf x carries running w) (h ∙ ap (λ (w : Sharing). stored raising w (j + 1)) said));
-      sent = rw said at sent;
+      stored = rw said at sent;
     }

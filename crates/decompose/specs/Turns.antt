@@ -1,12 +1,12 @@
--- 01, order 5: one gate on the heads of lent channels.
+-- 01, order 5: a majority's words, and gates on lent channels up to the result.
+use Prim.Native.Nat.{ℕ}
 use mathlib.Core.List.{List}
 use mathlib.Core.Path.{_≡_}
-use Prim.Native.Nat.{ℕ}
 use Rattle.gate.specs.Gates.{gated}
-use Rattle.gate.specs.Places.{Place, Sent, parts, sharing, tabled}
+use Rattle.gate.specs.Places.{Place, parts, sharing, tabled}
 use Rattle.gate.specs.declared.sharing.Sharing.{Sharing}
 use Rattle.circuit.specs.Bits.{gather}
-use Rattle.circuit.specs.Circuits.{Gate, after, ends, words}
+use Rattle.circuit.specs.Circuits.{Gate, ends}
 use Rattle.circuit.specs.Decompose.{Digits, digit}
 use Rattle.circuit.specs.Lent.{Ran}
 use Rattle.decompose.specs.Words.{bitsXor}
@@ -14,11 +14,6 @@ use Rattle.decompose.specs.Words.{bitsXor}
 -- order 5: "The majority of x, y, c is c XOR ((x XOR c) AND (y XOR c)), one gate": its words, with items t
 abbrev pub majorityWords : (x y c t : Sharing) → Sharing
 majorityWords x y c t = sharing (gated 2 (parts (bitsXor x c)) (parts (bitsXor y c)) (parts t))
-
--- a gate of order 5 takes states s to r with items t, and its words stand at the heads of the channels: c at entry, d at exit
-pub record Turned (g : Gate Digits) (s : Place → Digits) (t : Sharing) (r : Place → Digits) (c₀ c₁ c₂ d₀ d₁ d₂ : List ℕ) : Type 0 where
-  pub states : after g s (words g s (parts t)) ≡ r
-  pub sent : Sent (sharing (words g s (parts t))) c₀ c₁ c₂ d₀ d₁ d₂
 
 -- gates of order 5 from states s leave channels d, and z is the l bits that the states at their end give
 pub record Ended (l : ℕ) (G : List (Gate Digits)) (s : Place → Digits) (T c : Place → List ℕ) (z : Sharing) (d : Place → List ℕ) : Type 0 where

@@ -1,8 +1,6 @@
 -- 01, order 5: what the three places keep, as sharings of words.
 use Prim.Native.Nat.{ℕ, _+_, _*_, _/_, _%_, _^_}
-use mathlib.Core.List.{List}
 use lib.Bits.{bitXor}
-use lib.ListN.{getD}
 use Rattle.ring.specs.Rings.{bitOf}
 use Rattle.gate.specs.Places.{Place, three}
 use Rattle.gate.specs.declared.sharing.Sharing.{Sharing}
@@ -16,18 +14,6 @@ digitsOf x carries running raising =
     (record { x = x .s0; carries = carries .s0; running = running .s0; raising = raising .s0 })
     (record { x = x .s1; carries = carries .s1; running = running .s1; raising = raising .s1 })
     (record { x = x .s2; carries = carries .s2; running = running .s2; raising = raising .s2 })
-
--- order 5: words of carries before the first
-abbrev pub none : Sharing
-none = record { s0 = 0; s1 = 0; s2 = 0 }
-
--- the items of order 5's gate k
-abbrev pub itemsAt : ℕ → (m₀ m₁ m₂ : List ℕ) → Sharing
-itemsAt k m₀ m₁ m₂ = record { s0 = getD m₀ k 0; s1 = getD m₁ k 0; s2 = getD m₂ k 0 }
-
--- order 5: "x_i = 4 a_i modulo p"
-abbrev pub fourTimes : ℕ → Sharing → Sharing
-fourTimes p a = record { s0 = 4 * a .s0 % p; s1 = 4 * a .s1 % p; s2 = 4 * a .s2 % p }
 
 -- bit j of each word of order 5
 abbrev pub bitsAt : Sharing → ℕ → Sharing

@@ -9,16 +9,17 @@ ghost use Rattle.circuit.specs.Circuits.{upto};
 ghost use Rattle.circuit.specs.Decompose.{raisingGate, runningGate, zeroGate};
 ghost use Rattle.circuit.specs.Lent.{ItemsBelow, Left, Long};
 ghost use Rattle.circuit.specs.Orders.{decomposition};
+ghost use Rattle.circuit.specs.Sharings.{zeros};
 ghost use Rattle.decompose.specs.Turns.{Ended};
-ghost use Rattle.decompose.specs.Words.{digitsOf, none, totalled};
+ghost use Rattle.decompose.specs.Words.{digitsOf, totalled};
 use crate::stages::carry_stage;
 use crate::stages::raising_stage;
 use crate::stages::running_stage;
 use crate::turns::zero_turn;
 use crate::words::finish;
-use crate::words::four_times;
-use crate::words::items_at;
 use crate::words::totals;
+use circuit::four_times;
+use circuit::items_at;
 use gate::Sharing;
 use ring::Ring;
 
@@ -37,7 +38,7 @@ fn increment(
     requires masks { ⌜ Long l (now m0) (now m1) (now m2) ⌝ }
     requires channels { ⌜ Long l (now c0) (now c1) (now c2) ⌝ }
     requires items { ⌜ ItemsBelow 2 l (now m0) (now m1) (now m2) ⌝ }
-    ensures ended { λ z. ⌜ ((x carries running : Sharing) → total ≡ totalled x carries running → Ended l (zeroGate ∷ upto raisingGate (l - 1)) (digitsOf x carries running none) (three (now (m0 .entry)) (now (m1 .entry)) (now (m2 .entry))) (three (now (c0 .entry)) (now (c1 .entry)) (now (c2 .entry))) z (three (now (c0 .exit)) (now (c1 .exit)) (now (c2 .exit)))) ⌝ }
+    ensures ended { λ z. ⌜ ((x carries running : Sharing) → total ≡ totalled x carries running → Ended l (zeroGate ∷ upto raisingGate (l - 1)) (digitsOf x carries running zeros) (three (now (m0 .entry)) (now (m1 .entry)) (now (m2 .entry))) (three (now (c0 .entry)) (now (c1 .entry)) (now (c2 .entry))) z (three (now (c0 .exit)) (now (c1 .exit)) (now (c2 .exit)))) ⌝ }
     ensures below { λ z. ⌜ InRange (2 ^ l) z ⌝ }
 {
     let t = items_at(m0, m1, m2, 0);
@@ -72,7 +73,7 @@ fn from_carries(
     requires masks { ⌜ Long (l + l) (now m0) (now m1) (now m2) ⌝ }
     requires channels { ⌜ Long (l + l) (now c0) (now c1) (now c2) ⌝ }
     requires items { ⌜ ItemsBelow 2 (l + l) (now m0) (now m1) (now m2) ⌝ }
-    ensures ended { λ z. ⌜ Ended l (upto (λ k. runningGate (k + 1)) l ++ (zeroGate ∷ upto raisingGate (l - 1))) (digitsOf x carries none none) (three (now (m0 .entry)) (now (m1 .entry)) (now (m2 .entry))) (three (now (c0 .entry)) (now (c1 .entry)) (now (c2 .entry))) z (three (now (c0 .exit)) (now (c1 .exit)) (now (c2 .exit))) ⌝ }
+    ensures ended { λ z. ⌜ Ended l (upto (λ k. runningGate (k + 1)) l ++ (zeroGate ∷ upto raisingGate (l - 1))) (digitsOf x carries zeros zeros) (three (now (m0 .entry)) (now (m1 .entry)) (now (m2 .entry))) (three (now (c0 .entry)) (now (c1 .entry)) (now (c2 .entry))) z (three (now (c0 .exit)) (now (c1 .exit)) (now (c2 .exit))) ⌝ }
     ensures below { λ z. ⌜ InRange (2 ^ l) z ⌝ }
 {
     let running = running_stage(x, carries, l, m0, m1, m2, c0, c1, c2);

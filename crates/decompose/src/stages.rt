@@ -6,12 +6,13 @@ ghost use Rattle.gate.specs.declared.sharing.Sharing.{Sharing};
 ghost use Rattle.circuit.specs.Circuits.{upto};
 ghost use Rattle.circuit.specs.Decompose.{carryGate, raisingGate, runningGate};
 ghost use Rattle.circuit.specs.Lent.{ItemsBelow, Long, Ran};
-ghost use Rattle.decompose.specs.Words.{digitsOf, none, totalled};
+ghost use Rattle.circuit.specs.Sharings.{zeros};
+ghost use Rattle.decompose.specs.Words.{digitsOf, totalled};
 use crate::turns::carry_turn;
 use crate::turns::raising_turn;
 use crate::turns::running_turn;
-use crate::words::items_at;
-use crate::words::zeros;
+use circuit::items_at;
+use circuit::zeros;
 use gate::Sharing;
 
 // (i) The carries: n gates.
@@ -29,7 +30,7 @@ pub fn carry_stage(
     requires masks { ⌜ Long n (now m0) (now m1) (now m2) ⌝ }
     requires channels { ⌜ Long n (now c0) (now c1) (now c2) ⌝ }
     requires items { ⌜ ItemsBelow 2 n (now m0) (now m1) (now m2) ⌝ }
-    ensures { λ r. ⌜ Ran (upto carryGate n) (digitsOf x none none none) (three (now (m0 .entry)) (now (m1 .entry)) (now (m2 .entry))) (three (now (c0 .entry)) (now (c1 .entry)) (now (c2 .entry))) (digitsOf x r none none) (three (now (c0 .exit)) (now (c1 .exit)) (now (c2 .exit))) ⌝ }
+    ensures { λ r. ⌜ Ran (upto carryGate n) (digitsOf x zeros zeros zeros) (three (now (m0 .entry)) (now (m1 .entry)) (now (m2 .entry))) (three (now (c0 .entry)) (now (c1 .entry)) (now (c2 .entry))) (digitsOf x r zeros zeros) (three (now (c0 .exit)) (now (c1 .exit)) (now (c2 .exit))) ⌝ }
 {
     let mut carries = zeros();
     let mut j = 0;
@@ -58,7 +59,7 @@ pub fn running_stage(
     requires masks { ⌜ Long n (now m0) (now m1) (now m2) ⌝ }
     requires channels { ⌜ Long n (now c0) (now c1) (now c2) ⌝ }
     requires items { ⌜ ItemsBelow 2 n (now m0) (now m1) (now m2) ⌝ }
-    ensures { λ r. ⌜ Ran (upto (λ k. runningGate (k + 1)) n) (digitsOf x carries none none) (three (now (m0 .entry)) (now (m1 .entry)) (now (m2 .entry))) (three (now (c0 .entry)) (now (c1 .entry)) (now (c2 .entry))) (digitsOf x carries r none) (three (now (c0 .exit)) (now (c1 .exit)) (now (c2 .exit))) ⌝ }
+    ensures { λ r. ⌜ Ran (upto (λ k. runningGate (k + 1)) n) (digitsOf x carries zeros zeros) (three (now (m0 .entry)) (now (m1 .entry)) (now (m2 .entry))) (three (now (c0 .entry)) (now (c1 .entry)) (now (c2 .entry))) (digitsOf x carries r zeros) (three (now (c0 .exit)) (now (c1 .exit)) (now (c2 .exit))) ⌝ }
 {
     let mut running = zeros();
     let mut j = 0;

@@ -1,11 +1,13 @@
 // One gate of each kind, its items given and its channels lent from its own word on.
 ghost use mathlib.Core.Path.{_≡_};
 ghost use Prim.Native.Nat.{_+_, _<_, _^_};
-ghost use Rattle.gate.specs.Places.{InRange, Room, Sent};
+ghost use Rattle.gate.specs.Places.{InRange, Sent};
 ghost use Rattle.gate.specs.declared.sharing.Sharing.{Sharing};
 ghost use Rattle.circuit.specs.Decompose.{carryGate, raisingGate, runningGate, zeroGate};
-ghost use Rattle.decompose.specs.Turns.{Turned, majorityWords};
-ghost use Rattle.decompose.specs.Words.{bitsXor, digitsOf, none, totalled};
+ghost use Rattle.circuit.specs.Lent.{Long, Turned};
+ghost use Rattle.circuit.specs.Sharings.{zeros};
+ghost use Rattle.decompose.specs.Turns.{majorityWords};
+ghost use Rattle.decompose.specs.Words.{bitsXor, digitsOf, totalled};
 use crate::words::bits;
 use crate::words::store;
 use crate::words::xors;
@@ -26,7 +28,7 @@ fn majority(
     requires second { ⌜ InRange 2 y ⌝ }
     requires third { ⌜ InRange 2 c ⌝ }
     requires items { ⌜ InRange 2 t ⌝ }
-    requires room { ⌜ Room (now c0) (now c1) (now c2) ⌝ }
+    requires room { ⌜ Long 1 (now c0) (now c1) (now c2) ⌝ }
     ensures is { λ b. ⌜ b ≡ bitsXor c (majorityWords x y c t) ⌝ }
     ensures below { λ b. ⌜ InRange 2 b ⌝ }
     ensures sent { λ b. ⌜ Sent (majorityWords x y c t) (now (c0 .entry)) (now (c1 .entry)) (now (c2 .entry)) (now (c0 .exit)) (now (c1 .exit)) (now (c2 .exit)) ⌝ }
@@ -50,8 +52,8 @@ pub fn carry_turn(
     requires bit { ⌜ j < 63 ⌝ }
     requires words { ⌜ InRange (2 ^ (j + 1)) carries ⌝ }
     requires items { ⌜ InRange 2 t ⌝ }
-    requires room { ⌜ Room (now c0) (now c1) (now c2) ⌝ }
-    ensures turned { λ r. ⌜ Turned (carryGate j) (digitsOf x carries none none) t (digitsOf x r none none) (now (c0 .entry)) (now (c1 .entry)) (now (c2 .entry)) (now (c0 .exit)) (now (c1 .exit)) (now (c2 .exit)) ⌝ }
+    requires room { ⌜ Long 1 (now c0) (now c1) (now c2) ⌝ }
+    ensures turned { λ r. ⌜ Turned (carryGate j) (digitsOf x carries zeros zeros) t (digitsOf x r zeros zeros) (now (c0 .entry)) (now (c1 .entry)) (now (c2 .entry)) (now (c0 .exit)) (now (c1 .exit)) (now (c2 .exit)) ⌝ }
     ensures below { λ r. ⌜ InRange (2 ^ (j + 1 + 1)) r ⌝ }
 {
     let b = bits(x, j);
@@ -88,8 +90,8 @@ pub fn running_turn(
     requires bit { ⌜ j < 63 ⌝ }
     requires words { ⌜ InRange (2 ^ (j + 1)) running ⌝ }
     requires items { ⌜ InRange 2 t ⌝ }
-    requires room { ⌜ Room (now c0) (now c1) (now c2) ⌝ }
-    ensures turned { λ r. ⌜ Turned (runningGate j) (digitsOf x carries running none) t (digitsOf x carries r none) (now (c0 .entry)) (now (c1 .entry)) (now (c2 .entry)) (now (c0 .exit)) (now (c1 .exit)) (now (c2 .exit)) ⌝ }
+    requires room { ⌜ Long 1 (now c0) (now c1) (now c2) ⌝ }
+    ensures turned { λ r. ⌜ Turned (runningGate j) (digitsOf x carries running zeros) t (digitsOf x carries r zeros) (now (c0 .entry)) (now (c1 .entry)) (now (c2 .entry)) (now (c0 .exit)) (now (c1 .exit)) (now (c2 .exit)) ⌝ }
     ensures below { λ r. ⌜ InRange (2 ^ (j + 1 + 1)) r ⌝ }
 {
     let sum = bits(x, j);
@@ -108,8 +110,8 @@ pub fn zero_turn(
     c2: &mut [u64],
 ) -> Sharing
     requires items { ⌜ InRange 2 t ⌝ }
-    requires room { ⌜ Room (now c0) (now c1) (now c2) ⌝ }
-    ensures turned { λ r. ⌜ ((x carries running : Sharing) → total ≡ totalled x carries running → Turned zeroGate (digitsOf x carries running none) t (digitsOf x carries running r) (now (c0 .entry)) (now (c1 .entry)) (now (c2 .entry)) (now (c0 .exit)) (now (c1 .exit)) (now (c2 .exit))) ⌝ }
+    requires room { ⌜ Long 1 (now c0) (now c1) (now c2) ⌝ }
+    ensures turned { λ r. ⌜ ((x carries running : Sharing) → total ≡ totalled x carries running → Turned zeroGate (digitsOf x carries running zeros) t (digitsOf x carries running r) (now (c0 .entry)) (now (c1 .entry)) (now (c2 .entry)) (now (c0 .exit)) (now (c1 .exit)) (now (c2 .exit))) ⌝ }
     ensures below { λ r. ⌜ InRange 2 r ⌝ }
 {
     let left = bits(total, 0);
@@ -131,7 +133,7 @@ pub fn raising_turn(
     requires bit { ⌜ j < 62 ⌝ }
     requires words { ⌜ InRange (2 ^ (j + 1)) raising ⌝ }
     requires items { ⌜ InRange 2 t ⌝ }
-    requires room { ⌜ Room (now c0) (now c1) (now c2) ⌝ }
+    requires room { ⌜ Long 1 (now c0) (now c1) (now c2) ⌝ }
     ensures turned { λ r. ⌜ ((x carries running : Sharing) → total ≡ totalled x carries running → Turned (raisingGate j) (digitsOf x carries running raising) t (digitsOf x carries running r) (now (c0 .entry)) (now (c1 .entry)) (now (c2 .entry)) (now (c0 .exit)) (now (c1 .exit)) (now (c2 .exit))) ⌝ }
     ensures below { λ r. ⌜ InRange (2 ^ (j + 1 + 1)) r ⌝ }
 {

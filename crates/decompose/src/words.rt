@@ -1,51 +1,10 @@
-// Words of the three places: items, single bits, and bits stored.
+// Words of the three places: single bits, and bits stored.
 ghost use mathlib.Core.Path.{_≡_};
 ghost use Prim.Native.Nat.{_+_, _*_, _<_, _^_};
-ghost use Rattle.ring.specs.Rings.{modulusOf};
 ghost use Rattle.gate.specs.Places.{InRange};
-ghost use Rattle.circuit.specs.Lent.{Long};
-ghost use Rattle.decompose.specs.Words.{bitsAt, bitsXor, finished, fourTimes, itemsAt, none, stored, totalled, upper};
+ghost use Rattle.decompose.specs.Words.{bitsAt, bitsXor, finished, stored, totalled, upper};
 use gate::Sharing;
-use ring::Ring;
 use ring::bit;
-
-// No carries yet.
-pub fn zeros() -> Sharing
-    ensures { λ w. ⌜ w ≡ none ⌝ }
-{
-    Sharing {
-        s0: 0,
-        s1: 0,
-        s2: 0,
-    }
-}
-
-// The items of gate k.
-pub fn items_at(m0: &[u64], m1: &[u64], m2: &[u64], k: usize) -> Sharing
-    requires { ⌜ Long (k + 1) (now m0) (now m1) (now m2) ⌝ }
-    ensures { λ t. ⌜ t ≡ itemsAt k (now (m0 .entry)) (now (m1 .entry)) (now (m2 .entry)) ⌝ }
-{
-    Sharing {
-        s0: m0[k],
-        s1: m1[k],
-        s2: m2[k],
-    }
-}
-
-// x_i = 4 a_i modulo p.
-pub fn four_times(r: Ring, a: Sharing) -> Sharing
-    requires { ⌜ InRange (modulusOf r) a ⌝ }
-    ensures { λ x. ⌜ x ≡ fourTimes (modulusOf r) a ⌝ }
-{
-    let x0 = r.four_times(a.s0);
-    let x1 = r.four_times(a.s1);
-    let x2 = r.four_times(a.s2);
-    Sharing {
-        s0: x0,
-        s1: x1,
-        s2: x2,
-    }
-}
 
 // Bit j of each word.
 pub fn bits(w: Sharing, j: u64) -> Sharing

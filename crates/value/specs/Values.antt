@@ -6,18 +6,11 @@ use mathlib.Core.Path.{_≡_}
 use lib.Dec.{eqb}
 use Rattle.ring.specs.Modular.{diff}
 use Rattle.ring.specs.Rings.{modulus, quarter}
-use Rattle.gate.specs.Places.{Below, Place, p0, p1, p2, total}
+use Rattle.gate.specs.Places.{Below, Place, total}
 use Rattle.circuit.specs.Bits.{exclusive}
 use Rattle.circuit.specs.Circuits.{result}
 use Rattle.circuit.specs.Orders.{addition, composition, conversion, decomposition, multiplication, scaling, shifting}
-
--- a total of whole numbers
-abbrev pub summed : (Place → ℕ) → ℕ
-summed x = x p0 + x p1 + x p2
-
--- X = x_0 + x_1 + x_2 "as whole numbers", x_i = 4 a_i modulo p
-abbrev pub lifted : ℕ → (Place → ℕ) → ℕ
-lifted e a = summed (λ i. 4 * a i % modulus e)
+pub use Rattle.circuit.specs.Orders.{lifted, summed}
 
 -- "X div 4 + [X mod 4 is not 0]"
 abbrev pub roundedUp : ℕ → ℕ

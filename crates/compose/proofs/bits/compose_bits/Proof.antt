@@ -18,7 +18,7 @@ abbrev μ-loop : tie.MeasureT-loop
 holds : tie.Need-loop-holds Inv-loop μ-loop
 holds c =
     let args = c .before .before .before .before .before .before .before .args in
-    at-start (modulusOf (args .r)) (args .from) (args .count) (omega (arith, modulus-gt (args .r))) (c .no-sum .ensures)
+    at-start (modulusOf (args .r)) (args .from) (args .count) (omega (arith, modulus-gt (args .r))) (c .zeros .ensures)
 
 abbrev start : tie.In-loop Inv-loop μ-loop → tie.Start Inv-loop μ-loop
 start c = c .before .before .before .before .before .before .before .before .before

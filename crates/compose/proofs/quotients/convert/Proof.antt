@@ -6,9 +6,8 @@ use borrow.Author.Needs.{needs}
 use borrow.Rule.Slice.PartMut.{same-len-mid}
 use lib.ListN.{length}
 use Rattle.circuit.specs.Lent.{Long}
-use Rattle.circuit.proofs.LentLaw.{long-on}
+use Rattle.circuit.proofs.LentLaw.{below-part, long-less, long-on, long-same}
 use Rattle.compose.proofs.QuotientLaw.{converted}
-use Rattle.compose.proofs.RunsLaw.{below-part, long-less}
 use Rattle.compose.proofs.quotients.convert.Statement.{statement}
 use Rattle.compose.proofs.quotients.convert.Tie as tie
 
@@ -21,12 +20,9 @@ first-fits c κs =
 room : (c : tie.After-slice-known6) → Long 5 (c .before .before .before .before .before .before .quotient .last .1 .1 .1 .1 .0) (c .before .before .before .before .before .before .quotient .last .1 .1 .1 .1 .1 .0) (c .before .before .before .before .before .before .quotient .last .1 .1 .1 .1 .1 .1 .0)
 room c =
     let called = c .before .before .before .before .before .before in
-    let long = called .before .before .before .before .before .before .before .before .before .before .before .pre .1 .1 .1 .1 in
-    record {
-      zero = omega (arith, called .quotient .kept .1 .1 .1 .1 .0);
-      one = omega (arith, called .quotient .kept .1 .1 .1 .1 .1 .0);
-      two = omega (arith, called .quotient .kept .1 .1 .1 .1 .1 .1 .0);
-    }
+    let kept = called .quotient .kept .1 .1 .1 .1 in
+    long-same (record { zero = kept .0; one = kept .1 .0; two = kept .1 .1 .0 })
+    (called .before .before .before .before .before .before .before .before .before .before .before .pre .1 .1 .1 .1)
 
 second-fits : tie.Need-compose-bits-requires
 second-fits c κs =

@@ -3,8 +3,8 @@ use mathlib.Core.Path.{refl}
 use native.Mathlib.Omega.{arith}
 use borrow.Author.Needs.{needs}
 use lib.Bits.{xor-lt}
+use Rattle.circuit.proofs.TurnLaw.{items-in}
 use Rattle.compose.proofs.QuotientLaw.{carries-of}
-use Rattle.compose.proofs.StepLaw.{items-in}
 use Rattle.compose.proofs.quotients.low_carry.Statement.{statement}
 use Rattle.compose.proofs.quotients.low_carry.Tie as tie
 
@@ -12,7 +12,7 @@ fits : tie.Need-bit-gate-requires
 fits c κs =
     let taken = c .before .before .before in
     let start = taken .before .before .before .before .before .before .before .before .before .before in
-    (omega arith, (omega arith, (items-in (omega arith) (taken .items .ensures) (start .pre .1 .0), omega (arith, start .pre .1 .1))))
+    (omega arith, (omega arith, (items-in (omega arith) (taken .items-at .ensures) (start .pre .1 .0), omega (arith, start .pre .1 .1))))
 
 returns : tie.Need-returns
 returns c =
@@ -24,7 +24,7 @@ returns c =
     let range = called .bit-gate .ensures .1 .0 in (
       carries-of (bit .bit .ensures .0) (bit2 .bit2 .ensures .0) (bit3 .bit3 .ensures .0)
           (bit .bit .ensures .1) (bit2 .bit2 .ensures .1) (bit3 .bit3 .ensures .1)
-          (taken .items .ensures) (called .bit-gate .ensures .0) range (called .bit-gate .ensures .1 .1) refl,
+          (taken .items-at .ensures) (called .bit-gate .ensures .0) range (called .bit-gate .ensures .1 .1) refl,
       record { zero = range .zero; one = range .one; two = xor-lt 1 _ _ (bit3 .bit3 .ensures .1) (range .two) },
     )
 

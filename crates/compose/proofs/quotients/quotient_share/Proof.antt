@@ -1,15 +1,16 @@
 -- Of bits `^` is their sum modulo 2.
 use native.Mathlib.Omega.{arith}
 use borrow.Author.Needs.{needs}
-use Rattle.compose.proofs.ShareLaw.{quotient-fits, quotient-is}
+use lib.Bits.{xor-lt}
+use Rattle.compose.proofs.ShareLaw.{quotient-is}
 use Rattle.compose.proofs.quotients.quotient_share.Statement.{statement}
 use Rattle.compose.proofs.quotients.quotient_share.Tie as tie
 
 product : tie.Need-mul-result
-product c = omega (arith, quotient-fits (c .bit2 .ensures .1) (c .before .before .pre))
+product c = omega (arith, xor-lt 1 _ _ (c .bit2 .ensures .1) (c .before .before .pre))
 
 sum : tie.Need-add-result
-sum c = omega (arith, quotient-fits (c .bit2 .ensures .1) (c .before .before .pre))
+sum c = omega (arith, xor-lt 1 _ _ (c .bit2 .ensures .1) (c .before .before .pre))
 
 returns : tie.Need-returns
 returns c = quotient-is _ (c .before .bit .ensures .0) (c .bit2 .ensures .0) (c .bit2 .ensures .1) (c .before .before .pre)

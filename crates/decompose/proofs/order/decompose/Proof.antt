@@ -8,9 +8,9 @@ use mir.Val.{Fits}
 use Rattle.ring.specs.Rings.{widthOf}
 use Rattle.ring.proofs.RangeLaw.{width-le}
 use Rattle.circuit.specs.Decompose.{carryGate}
-use Rattle.circuit.proofs.LentLaw.{below-on, long-on}
+use Rattle.circuit.proofs.LentLaw.{AsLong, below-less, below-on, long-less, long-on, long-same}
 use Rattle.circuit.proofs.RunLaw.{length-upto}
-use Rattle.decompose.proofs.StageLaw.{ended-rest, items-less, left-is, long-less, long-same}
+use Rattle.decompose.proofs.StageLaw.{ended-rest, left-is}
 use Rattle.decompose.proofs.order.decompose.Statement.{statement}
 use Rattle.decompose.proofs.order.decompose.Tie as tie
 
@@ -36,7 +36,7 @@ stage-requires c κs =
     let start = c .before .before .before .before .before .before .before .before .before .before in
     let fact = start .pre .1 in
     let less : start .args .l + 1 ≤ 3 * start .args .l + 1 = omega arith in
-    (omega (arith, small start), (long-less (fact .1 .0) less, (long-less (fact .1 .1 .0) less, items-less (fact .1 .1 .1) less)))
+    (omega (arith, small start), (long-less less (fact .1 .0), (long-less less (fact .1 .1 .0), below-less less (fact .1 .1 .1))))
 
 rest-requires : tie.Need-from-carries-requires
 rest-requires c κs =
@@ -46,11 +46,13 @@ rest-requires c κs =
     let l = start .args .l in
     let less : l + 1 + (l + l) ≤ 3 * l + 1 = omega arith in
     let last = stage back .carry-stage .last .1 .1 .1 .1 .1 in
-    let channels = long-same (last .0) (last .1 .0) (last .1 .1 .0) (fact .1 .1 .0) (back .before .before .before .before .before .c0 .given) (back .before .before .before .c1 .given) (back .before .c2 .given) in (
+    let same : AsLong _ _ _ (last .0) (last .1 .0) (last .1 .1 .0)
+    = record { zero = back .before .before .before .before .before .c0 .given; one = back .before .before .before .c1 .given; two = back .before .c2 .given } in
+    let channels = long-same same (fact .1 .1 .0) in (
       (fact .0 .0, omega (arith, small start)),
       (
-        long-on (l + l) (l + 1) (long-less (fact .1 .0) less),
-        (long-on (l + l) (l + 1) (long-less channels less), below-on 2 (l + l) (l + 1) (items-less (fact .1 .1 .1) less)),
+        long-on (l + l) (l + 1) (long-less less (fact .1 .0)),
+        (long-on (l + l) (l + 1) (long-less less channels), below-on 2 (l + l) (l + 1) (below-less less (fact .1 .1 .1))),
       ),
     )
 
@@ -60,7 +62,7 @@ returns c =
     let carries = stage (lent (rest .before)) in
     let start = entry carries in
     let l = start .args .l in
-    let ended = ended-rest l (l + 1) (length-upto carryGate (l + 1)) (carries .carry-stage .ensures) (rest .from-carries .ensures .0) in
+    let ended = ended-rest l (length-upto carryGate (l + 1)) (carries .carry-stage .ensures) (rest .from-carries .ensures .0) in
     (left-is (widthOf (start .args .r)) l (start .args .a) (carries .before .before .before .before .four-times .ensures) ended, rest .from-carries .ensures .1)
 
 pub decompose-spec : {M : Type 1} → statement M

@@ -4,9 +4,9 @@ use mathlib.Core.Path.{_∙_}
 use native.Mathlib.Omega.{arith}
 use borrow.Author.Needs.{needs}
 use Rattle.circuit.specs.Decompose.{runningGate}
-use Rattle.circuit.proofs.LentLaw.{below-on, long-on}
+use Rattle.circuit.proofs.LentLaw.{AsLong, below-less, below-on, long-less, long-on, long-same}
 use Rattle.circuit.proofs.RunLaw.{length-upto}
-use Rattle.decompose.proofs.StageLaw.{ended-rest, items-less, long-less, long-same}
+use Rattle.decompose.proofs.StageLaw.{ended-rest}
 use Rattle.decompose.proofs.order.from_carries.Statement.{statement}
 use Rattle.decompose.proofs.order.from_carries.Tie as tie
 
@@ -26,7 +26,7 @@ stage-requires c κs =
     let start = c .before .before .before .before .before .before .before .before .before in
     let fact = start .pre in
     let less : start .args .l ≤ start .args .l + start .args .l = omega arith in
-    (fact .0 .1, (long-less (fact .1 .0) less, (long-less (fact .1 .1 .0) less, items-less (fact .1 .1 .1) less)))
+    (fact .0 .1, (long-less less (fact .1 .0), (long-less less (fact .1 .1 .0), below-less less (fact .1 .1 .1))))
 
 rest-requires : tie.Need-increment-requires
 rest-requires c κs =
@@ -35,7 +35,9 @@ rest-requires c κs =
     let fact = start .pre in
     let l = start .args .l in
     let last = stage (total c) .running-stage .last .1 .1 .1 .1 .1 .1 in
-    let channels = long-same (last .0) (last .1 .0) (last .1 .1 .0) (fact .1 .1 .0) (back .before .before .before .before .before .c0 .given) (back .before .before .before .c1 .given) (back .before .c2 .given) in
+    let same : AsLong _ _ _ (last .0) (last .1 .0) (last .1 .1 .0)
+    = record { zero = back .before .before .before .before .before .c0 .given; one = back .before .before .before .c1 .given; two = back .before .c2 .given } in
+    let channels = long-same same (fact .1 .1 .0) in
     (fact .0, (long-on l l (fact .1 .0), (long-on l l channels, below-on 2 l l (fact .1 .1 .1))))
 
 returns : tie.Need-returns
@@ -46,7 +48,7 @@ returns c =
     let start = entry (stage sum) in
     let l = start .args .l in
     let ended = rest .increment .ensures .0 (start .args .x) (start .args .carries) (running .result) (sum .totals .ensures) in
-    (ended-rest l l (length-upto (λ k. runningGate (k + 1)) l) (running .ensures) ended, rest .increment .ensures .1)
+    (ended-rest l (length-upto (λ k. runningGate (k + 1)) l) (running .ensures) ended, rest .increment .ensures .1)
 
 pub from-carries-spec : {M : Type 1} → statement M
 from-carries-spec =

@@ -8,8 +8,10 @@ use Rattle.gate.specs.declared.sharing.Sharing.{Sharing}
 use Rattle.circuit.specs.Circuits.{upto}
 use Rattle.circuit.specs.Decompose.{raisingGate}
 use Rattle.circuit.specs.Lent.{Ran}
+use Rattle.circuit.proofs.LentLaw.{long-less}
+use Rattle.circuit.proofs.TurnLaw.{items-in, no-gates, one-more}
 use Rattle.decompose.specs.Words.{digitsOf, totalled}
-use Rattle.decompose.proofs.StageLaw.{Kept, items-below, long-less, no-gates, one-more, room-rest}
+use Rattle.decompose.proofs.StageLaw.{Kept, room-next}
 use Rattle.decompose.proofs.stages.raising_stage.Statement.{statement}
 use Rattle.decompose.proofs.stages.raising_stage.Tie as tie
 
@@ -28,14 +30,14 @@ entry c = c .before .before .before .before .before .before .before
 
 holds : tie.Need-loop-holds Inv-loop μ-loop
 holds c = (
-  record { within = omega arith; zero = refl; one = refl; two = refl; words = c .before .before .before .before .before .before .pre .1 .0 },
+  record { within = omega arith; same = record { zero = refl; one = refl; two = refl }; words = c .before .before .before .before .before .before .pre .1 .0 },
   λ x carries running e. no-gates raisingGate refl,
 )
 
 items : tie.Need-items-at-requires Inv-loop μ-loop
 items c κs =
     let more : c .before .loop .j + 1 ≤ entry (c .before) .args .n = omega arith in
-    long-less (entry (c .before) .pre .1 .1 .0) more
+    long-less more (entry (c .before) .pre .1 .1 .0)
 
 requires : tie.Need-raising-turn-requires Inv-loop μ-loop
 requires c κs =
@@ -43,7 +45,7 @@ requires c κs =
     let head = read .before .before .loop in
     let fact = entry (read .before .before) .pre .1 .1 .1 in
     let below = read .before .loop-test .taken in
-    (omega (arith, entry (read .before .before) .pre .0), (head .inv .0 .words, (items-below (head .j) (read .items-at .ensures) (fact .1) below, room-rest (head .inv .0) (fact .0) below)))
+    (omega (arith, entry (read .before .before) .pre .0), (head .inv .0 .words, (items-in below (read .items-at .ensures) (fact .1), room-next (head .inv .0) (fact .0) (omega arith))))
 
 again : tie.Need-loop-again Inv-loop μ-loop
 again c =
@@ -51,12 +53,14 @@ again c =
     let read = called .before .before .before .before in
     let head = read .before .before .loop in
     let kept = head .inv .0 in
-    let room = room-rest kept (entry (read .before .before) .pre .1 .1 .1 .0) (read .before .loop-test .taken) in (
+    let room = room-next kept (entry (read .before .before) .pre .1 .1 .1 .0) (omega arith) in (
       record {
         within = omega arith;
-        zero = c .before .before .before .before .before .c0 .given .1 ∙ kept .zero;
-        one = c .before .before .before .c1 .given .1 ∙ kept .one;
-        two = c .before .c2 .given .1 ∙ kept .two;
+        same = record {
+          zero = c .before .before .before .before .before .c0 .given .1 ∙ kept .same .zero;
+          one = c .before .before .before .c1 .given .1 ∙ kept .same .one;
+          two = c .before .c2 .given .1 ∙ kept .same .two;
+        };
         words = called .raising-turn .ensures .1;
       },
       λ x carries running e. one-more raisingGate (head .j) (read .items-at .ensures) (head .inv .1 x carries running e) room (called .raising-turn .ensures .0 x carries running e),

@@ -8,16 +8,19 @@ use Rattle.gate.specs.declared.sharing.Sharing.{Sharing}
 use Rattle.circuit.specs.Circuits.{upto}
 use Rattle.circuit.specs.Decompose.{runningGate}
 use Rattle.circuit.specs.Lent.{Ran}
-use Rattle.decompose.specs.Words.{digitsOf, none}
-use Rattle.decompose.proofs.StageLaw.{Kept, items-below, long-less, no-gates, one-more, room-rest}
+use Rattle.circuit.specs.Sharings.{zeros}
+use Rattle.circuit.proofs.LentLaw.{long-less}
+use Rattle.circuit.proofs.TurnLaw.{items-in, no-gates, one-more}
+use Rattle.decompose.specs.Words.{digitsOf}
+use Rattle.decompose.proofs.StageLaw.{Kept, room-next}
 use Rattle.decompose.proofs.stages.running_stage.Statement.{statement}
 use Rattle.decompose.proofs.stages.running_stage.Tie as tie
 
 abbrev Inv-loop : tie.InvT-loop
 Inv-loop x carries n m0 m1 m2 c0₀ c1₀ c2₀ running₀ j₀ c0 c1 c2 running j =
     Kept n j (j + 1 + 1) running c0₀ c1₀ c2₀ c0 c1 c2
-    × Ran (upto (λ k. runningGate (k + 1)) j) (digitsOf x carries none none) (three m0 m1 m2) (three c0₀ c1₀ c2₀)
-    (digitsOf x carries running none) (three c0 c1 c2)
+    × Ran (upto (λ k. runningGate (k + 1)) j) (digitsOf x carries zeros zeros) (three m0 m1 m2) (three c0₀ c1₀ c2₀)
+    (digitsOf x carries running zeros) (three c0 c1 c2)
 
 abbrev μ-loop : tie.MeasureT-loop
 μ-loop x carries n m0 m1 m2 c0₀ c1₀ c2₀ running₀ j₀ c0 c1 c2 running j = n - j
@@ -28,14 +31,14 @@ entry c = c .before .before .before .before .before .before .before .before
 holds : tie.Need-loop-holds Inv-loop μ-loop
 holds c =
     let none-yet = c .zeros .ensures in (
-      record { within = omega arith; zero = refl; one = refl; two = refl; words = rw none-yet (omega arith) },
-      no-gates (λ k. runningGate (k + 1)) (ap (λ (w : Sharing). digitsOf (c .before .before .before .before .before .before .before .args .x) (c .before .before .before .before .before .before .before .args .carries) w none) (sym none-yet)),
+      record { within = omega arith; same = record { zero = refl; one = refl; two = refl }; words = rw none-yet (omega arith) },
+      no-gates (λ k. runningGate (k + 1)) (ap (λ (w : Sharing). digitsOf (c .before .before .before .before .before .before .before .args .x) (c .before .before .before .before .before .before .before .args .carries) w zeros) (sym none-yet)),
     )
 
 items : tie.Need-items-at-requires Inv-loop μ-loop
 items c κs =
     let more : c .before .loop .j + 1 ≤ entry (c .before) .args .n = omega arith in
-    long-less (entry (c .before) .pre .1 .0) more
+    long-less more (entry (c .before) .pre .1 .0)
 
 requires : tie.Need-running-turn-requires Inv-loop μ-loop
 requires c κs =
@@ -43,7 +46,7 @@ requires c κs =
     let head = read .before .before .loop in
     let fact = entry (read .before .before) .pre .1 .1 in
     let below = read .before .loop-test .taken in
-    (omega (arith, entry (read .before .before) .pre .0), (head .inv .0 .words, (items-below (head .j) (read .items-at .ensures) (fact .1) below, room-rest (head .inv .0) (fact .0) below)))
+    (omega (arith, entry (read .before .before) .pre .0), (head .inv .0 .words, (items-in below (read .items-at .ensures) (fact .1), room-next (head .inv .0) (fact .0) (omega arith))))
 
 again : tie.Need-loop-again Inv-loop μ-loop
 again c =
@@ -51,12 +54,14 @@ again c =
     let read = called .before .before .before .before in
     let head = read .before .before .loop in
     let kept = head .inv .0 in
-    let room = room-rest kept (entry (read .before .before) .pre .1 .1 .0) (read .before .loop-test .taken) in (
+    let room = room-next kept (entry (read .before .before) .pre .1 .1 .0) (omega arith) in (
       record {
         within = omega arith;
-        zero = c .before .before .before .before .before .c0 .given .1 ∙ kept .zero;
-        one = c .before .before .before .c1 .given .1 ∙ kept .one;
-        two = c .before .c2 .given .1 ∙ kept .two;
+        same = record {
+          zero = c .before .before .before .before .before .c0 .given .1 ∙ kept .same .zero;
+          one = c .before .before .before .c1 .given .1 ∙ kept .same .one;
+          two = c .before .c2 .given .1 ∙ kept .same .two;
+        };
         words = called .running-turn .ensures .1;
       },
       one-more (λ k. runningGate (k + 1)) (head .j) (read .items-at .ensures) (head .inv .1) room (called .running-turn .ensures .0),

@@ -1,11 +1,10 @@
 use borrow.Author.Needs.{needs}
-use Rattle.decompose.proofs.WordLaw.{words-are}
 use Rattle.decompose.proofs.words.bits.Statement.{statement}
 use Rattle.decompose.proofs.words.bits.Tie as tie
 
 returns : tie.Need-returns
 returns c = (
-  words-are (c .before .before .bit .ensures .0) (c .before .bit2 .ensures .0) (c .bit3 .ensures .0),
+  cc,
   record { zero = c .before .before .bit .ensures .1; one = c .before .bit2 .ensures .1; two = c .bit3 .ensures .1 },
 )
 

@@ -1,11 +1,10 @@
 use borrow.Author.Needs.{needs}
-use Rattle.decompose.proofs.WordLaw.{words-are}
 use Rattle.decompose.proofs.words.finish.Statement.{statement}
 use Rattle.decompose.proofs.words.finish.Tie as tie
 
 returns : tie.Need-returns
 returns c = (
-  words-are (c .before .before .upper-bits .ensures .0) (c .before .upper-bits2 .ensures .0) (c .upper-bits3 .ensures .0),
+  cc,
   record { zero = c .before .before .upper-bits .ensures .1; one = c .before .upper-bits2 .ensures .1; two = c .upper-bits3 .ensures .1 },
 )
 

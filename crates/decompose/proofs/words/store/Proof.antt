@@ -1,11 +1,10 @@
 use borrow.Author.Needs.{needs}
-use Rattle.decompose.proofs.WordLaw.{words-are}
 use Rattle.decompose.proofs.words.store.Statement.{statement}
 use Rattle.decompose.proofs.words.store.Tie as tie
 
 returns : tie.Need-returns
 returns c = (
-  words-are (c .before .before .store-bit .ensures .0) (c .before .store-bit2 .ensures .0) (c .store-bit3 .ensures .0),
+  cc,
   record { zero = c .before .before .store-bit .ensures .1; one = c .before .store-bit2 .ensures .1; two = c .store-bit3 .ensures .1 },
 )
 

@@ -1,0 +1,55 @@
+-- What a call from another language leaves, on words.
+use Prim.Native.Nat.{ℕ}
+use mathlib.Core.Bool.{cond}
+use mathlib.Core.List.{List, [], _∷_}
+use lib.Dec.{eqb}
+use lib.ListN.{length}
+use Rattle.gate.specs.Places.{Place}
+use Rattle.machine.specs.Checks.{Tapes}
+use Rattle.machine.specs.Step.{Outcome, step}
+use Rattle.tape.specs.Tapes as prepared
+use Rattle.layout.specs.Layout.{MachineFound, found, machineOf, machineWords, none, orderOf}
+use Rattle.layout.specs.declared.orders.OrderRead.{OrderRead}
+use Rattle.layout.specs.declared.orders.OrderRead.the-variants.{Found, NoOrder}
+
+-- the number returned, and the words of record, answer and channels
+pub record Left : Type 0 where
+  pub returned : ℕ
+  pub machine : List ℕ
+  pub answer : List ℕ
+  pub channels : Place → List ℕ
+
+abbrev pub left : ℕ → (m a : List ℕ) → (Place → List ℕ) → Left
+left n m a c = record { returned = n; machine = m; answer = a; channels = c }
+
+-- what an outcome leaves
+abbrev pub leftBy : Outcome → Left
+leftBy o = left (o .refusal) (machineWords (o .machine)) (o .refusal ∷ o .value ∷ o .gates ∷ []) (o .channels)
+
+-- a step where order and record are read, else what the last argument leaves
+abbrev pub stepRead : OrderRead → MachineFound → Tapes → (Place → List ℕ) → Left → Left
+stepRead (Found o) (found m) T c u = leftBy (step o m T c)
+stepRead (Found o) none T c u = u
+stepRead NoOrder f T c u = u
+
+-- 14 and nothing changed for words in no layout, else 01's step
+unfoldable pub stepWords : (o m a : List ℕ) → Tapes → (Place → List ℕ) → Left
+stepWords o m a T c =
+    let malformed = left 14 m a c in
+    cond (eqb (length a) 3) (stepRead (orderOf o) (machineOf m) T c malformed) malformed
+
+-- the number returned, and the words of run and answer
+pub record Tape : Type 0 where
+  pub returned : ℕ
+  pub run : List ℕ
+  pub answer : List ℕ
+
+abbrev pub tape : ℕ → (run a : List ℕ) → Tape
+tape n run a = record { returned = n; run = run; answer = a }
+
+abbrev pub tapeBy : prepared.Outcome → Tape
+tapeBy o = tape (o .refusal) (o .run) (o .refusal ∷ o .count ∷ [])
+
+-- 14 and nothing changed where the answer has not two words, else 01's preparation
+unfoldable pub prepareWords : (code : ℕ) (raw run a : List ℕ) → Tape
+prepareWords code raw run a = cond (eqb (length a) 2) (tapeBy (prepared.prepared code raw run)) (tape 14 run a)

@@ -1,0 +1,51 @@
+// One order on the words of a record.
+ghost use mathlib.Core.Path.{_≡_};
+ghost use Rattle.gate.specs.Places.{three};
+ghost use Rattle.interface.specs.Calls.{left, stepWords};
+use layout::OrderRead;
+use layout::read_machine;
+use layout::read_order;
+use layout::write_answer;
+use layout::write_machine;
+use order::refusal;
+use step::step;
+
+const MALFORMED: u64 = 14;
+
+// 01's step; 14 where the words of order, record or answer are in no layout, and then nothing changes.
+#[no_mangle]
+pub extern "C" fn survey_step(
+    order: &[u64],
+    record: &mut [u64],
+    m0: &[u64],
+    m1: &[u64],
+    m2: &[u64],
+    dealer: &[u64],
+    c0: &mut [u64],
+    c1: &mut [u64],
+    c2: &mut [u64],
+    answer: &mut [u64],
+) -> u64
+    ensures { λ r. ⌜ left r (now («record» .exit)) (now (answer .exit)) (three (now (c0 .exit)) (now (c1 .exit)) (now (c2 .exit))) ≡ stepWords (now (order .entry)) (now («record» .entry)) (now (answer .entry)) (record { masks = three (now (m0 .entry)) (now (m1 .entry)) (now (m2 .entry)); dealer = now (dealer .entry) }) (three (now (c0 .entry)) (now (c1 .entry)) (now (c2 .entry))) ⌝ }
+{
+    if record.len() != 83 {
+        return MALFORMED;
+    }
+    if answer.len() != 3 {
+        return MALFORMED;
+    }
+    let before = read_machine(record);
+    if !before.ok {
+        return MALFORMED;
+    }
+    match read_order(order) {
+        OrderRead::NoOrder => MALFORMED,
+        OrderRead::Found(o) => {
+            let after = step(before.machine, o, m0, m1, m2, dealer, c0, c1, c2);
+            write_machine(after.machine, record);
+            let given = after.answer;
+            write_answer(given, answer);
+            refusal(given)
+        }
+    }
+}
