@@ -2,6 +2,7 @@
 //! reference: library [CASES [SEED]]
 
 mod arena;
+mod figures;
 mod interface;
 mod steps;
 mod tapes;
@@ -135,6 +136,7 @@ fn run_tapes(cases: u64, seed: u64, tally: &mut Tally) {
 fn main() {
     let (cases, seed) = (argument(1, CASES), argument(2, 1));
     let mut tally = Tally::default();
+    figures::run(&mut tally);
     run_steps(cases, seed, &mut tally);
     run_tapes(cases, seed, &mut tally);
     let all: Vec<u64> = (0..=11).collect();
