@@ -11,8 +11,8 @@ use Rattle.ring.specs.Rings.{bitOf}
 use Rattle.ring.proofs.CongLaw.{cong-add, cong-below, cong-mod, cong-multiple, cong-of-eq, cong-refl, cong-sym, cong-trans}
 use Rattle.gate.specs.Places.{Place, p0, p1, p2}
 use Rattle.circuit.specs.Bits.{gather, xor}
+use Rattle.circuit.proofs.BitsLaw.{gather-bits, gather-lt, gather-same, gather-split}
 use Rattle.value.specs.Values.{roundedUp, summed}
-use Rattle.value.proofs.BitsLaw.{gather-bits, gather-lt, gather-same, gather-split}
 use Rattle.value.proofs.SumLaw.{summed-cong}
 
 -- a number below 2

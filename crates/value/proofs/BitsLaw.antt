@@ -1,24 +1,21 @@
--- Words made of bits, and bits that are shared: totals modulo 2.
-use Prim.Native.Nat.{ℕ, zero, suc, _+_, _*_, _-_, _/_, _%_, _<_, _≤_, _^_}
+-- Bits that are shared: totals modulo 2, and the words that they make.
+use Prim.Native.Nat.{ℕ, zero, suc, _+_, _*_, _%_, _<_, _^_}
 use mathlib.Core.Logic.{⊎-elim}
 use mathlib.Core.Path.{_≡_, ap, ap₂, fun-ext, refl, sym, _∙_}
-use native.Mathlib.Nat.{add-comm, add-mul-div-left, add-mul-div-right, add-mul-mod-self-right, add-suc, add-zero, div-eq-of-lt, eq-or-lt-of-le, le-of-suc-le-suc, mod-add-mod, mod-eq-of-lt, mod-lt, mod-one, mul-le-mul-right, pow-suc, zero-add, zero-div}
-use native.Mathlib.Numerals.{one-add}
+use native.Mathlib.Nat.{add-comm, eq-or-lt-of-le, le-of-suc-le-suc, mod-add-mod, mod-eq-of-lt, mod-lt, zero-div}
 use native.Mathlib.Omega.{arith}
 use lib.Bits.{bitXor, xor-block, xor-lt}
 use lib.Dec.{lit<}
-use lib.Pow.{high, mod-pow-add, pow-add, pow-pos}
+use lib.Pow.{pow-pos}
 use Rattle.ring.specs.Rings.{bitOf}
 use Rattle.ring.proofs.BitLaw.{xor-bit}
 use Rattle.ring.proofs.CongLaw.{cong-add, cong-mod, cong-of-eq, cong-sym, cong-trans}
 use Rattle.gate.specs.Places.{Below, Place, p0, p1, p2, total}
 use Rattle.circuit.specs.Bits.{alone, exclusive, gather, xor}
+use Rattle.circuit.proofs.BitsLaw.{bit-lt, gather-bits, gather-lt, stored-bit, stored-low, stored-lt}
+pub use Rattle.circuit.proofs.BitsLaw.{gather-high, gather-split}
 use Rattle.value.specs.Values.{summed}
 use Rattle.value.proofs.SumLaw.{summed-alone, summed-cong}
-
-pub bit-lt : (w j : ℕ) → bitOf w j < 2
-unfolding bitOf
-bit-lt w j = omega arith
 
 -- the exclusive or of shared bits, at each place
 pub total-xor : (u v : Place → ℕ) → total 2 (λ i. xor (u i) (v i)) ≡ xor (total 2 u) (total 2 v)
@@ -39,65 +36,6 @@ total-xor-three u v w =
 pub total-alone : (k : Place) (w : Place → ℕ) (j : ℕ) → total 2 (λ i. alone k i (bitOf (w i) j)) ≡ bitOf (w k) j
 unfolding total
 total-alone k w j = rw (summed-alone k (λ i. bitOf (w i) j)) (mod-eq-of-lt (bit-lt (w k) j))
-
--- a bit stored above the others: the word, its new bit, and the bits below
-stored-lt : (k : ℕ) {w b : ℕ} → w < 2 ^ k → b < 2 → w + b * 2 ^ k < 2 ^ suc k
-stored-lt k {w} {b} hw hb =
-    let top : b ≤ 1 = omega arith in
-    omega (arith, mul-le-mul-right (2 ^ k) top, pow-suc 2 k)
-
-stored-bit : (k : ℕ) {w b : ℕ} → w < 2 ^ k → b < 2 → bitOf (w + b * 2 ^ k) k ≡ b
-unfolding bitOf
-stored-bit k {w} {b} hw hb = rw (add-comm w (b * 2 ^ k), high b k hw) (mod-eq-of-lt hb)
-
-stored-low : (k j w b : ℕ) → j < k → bitOf (w + b * 2 ^ k) j ≡ bitOf w j
-unfolding bitOf
-stored-low k j w b h =
-    let d = k - j - 1 in
-    let apart : k ≡ d + 1 + j = omega arith in
-    let power : 2 ^ k ≡ 2 ^ d * 2 * 2 ^ j
-    = ap (λ (n : ℕ). 2 ^ n) apart ∙ pow-add 2 (d + 1) j ∙ ap (λ (n : ℕ). n * 2 ^ j) (pow-add 2 d 1) in
-    let shifted : b * 2 ^ k ≡ b * 2 ^ d * 2 * 2 ^ j = omega (arith, ap (λ (n : ℕ). b * n) power) in
-    rw (shifted, add-mul-div-right w (b * 2 ^ d * 2) (pow-pos j)) (add-mul-mod-self-right (w / 2 ^ j) (b * 2 ^ d) 2)
-
-pub gather-lt : (n : ℕ) (b : ℕ → ℕ) → ((j : ℕ) → b j < 2) → gather n b < 2 ^ n
-unfolding gather
-gather-lt zero b bits = lit< tt
-gather-lt (suc n) b bits = stored-lt n (gather-lt n b bits) (bits n)
-
-pub gather-same : (n : ℕ) {b c : ℕ → ℕ} → ((j : ℕ) → j < n → b j ≡ c j) → gather n b ≡ gather n c
-unfolding gather
-gather-same zero same = refl
-gather-same (suc n) same =
-    ap₂ (λ (g d : ℕ). g + d * 2 ^ n) (gather-same n (λ j h. same j (omega arith))) (same n (omega arith))
-
--- the low s bits, and the k above them
-pub gather-split : (s k : ℕ) (b : ℕ → ℕ) → gather (s + k) b ≡ gather s b + 2 ^ s * gather k (λ j. b (s + j))
-unfolding gather
-gather-split s zero b = ap (λ (n : ℕ). gather n b) (add-zero s) ∙ omega arith
-gather-split s (suc k) b =
-    ap (λ (n : ℕ). gather n b) (add-suc s k) ∙ omega (arith, gather-split s k b, ap (λ (n : ℕ). b (s + k) * n) (pow-add 2 s k))
-
--- the bits from s up
-pub gather-high : (s n : ℕ) (b : ℕ → ℕ) → ((j : ℕ) → b j < 2) → gather n (λ j. b (s + j)) ≡ gather (s + n) b / 2 ^ s
-gather-high s n b bits =
-    let high = gather n (λ j. b (s + j)) in
-    let below : gather s b < 2 ^ s = gather-lt s b bits in
-    sym
-    (ap (λ (w : ℕ). w / 2 ^ s) (gather-split s n b)
-    ∙ add-mul-div-left (gather s b) high (pow-pos s)
-    ∙ ap (λ (r : ℕ). r + high) (div-eq-of-lt below)
-    ∙ zero-add high)
-
--- a word is made of its bits
-pub gather-bits : (n w : ℕ) → gather n (bitOf w) ≡ w % 2 ^ n
-unfolding gather bitOf
-gather-bits zero w = sym (mod-one w)
-gather-bits (suc n) w =
-    ap (λ (g : ℕ). g + w / 2 ^ n % 2 * 2 ^ n) (gather-bits n w)
-    ∙ add-comm (w % 2 ^ n) (w / 2 ^ n % 2 * 2 ^ n)
-    ∙ sym (mod-pow-add w 1 n)
-    ∙ ap (λ (k : ℕ). w % 2 ^ k) (one-add n)
 
 -- exclusive or goes bit by bit
 xor-digit : (k : ℕ) {a b r s : ℕ} → a < 2 → b < 2 → r < 2 ^ k → s < 2 ^ k

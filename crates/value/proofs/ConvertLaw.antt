@@ -12,9 +12,10 @@ use Rattle.circuit.specs.Bits.{gather, xor}
 use Rattle.circuit.specs.Circuits.{words}
 use Rattle.circuit.specs.Compose.{Summing, summingStart}
 use Rattle.circuit.specs.Orders.{Quotient, lowBit, quotientBit, quotientGate, quotientStart}
+use Rattle.circuit.proofs.BitsLaw.{bit-lt}
 use Rattle.circuit.proofs.RunLaw.{step}
 use Rattle.value.specs.Values.{summed}
-use Rattle.value.proofs.BitsLaw.{bit-lt, total-alone, total-xor}
+use Rattle.value.proofs.BitsLaw.{total-alone, total-xor}
 use Rattle.value.proofs.ComposeLaw.{openedBit}
 use Rattle.value.proofs.GateLaw.{majority-total, step-is, words-total}
 use Rattle.value.proofs.SumLaw.{diff-of-summed, summed-cong, summed-diff, total-of}

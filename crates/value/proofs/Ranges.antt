@@ -9,8 +9,8 @@ use Rattle.circuit.specs.Circuits.{heads}
 use Rattle.circuit.specs.Compose.{summingStart}
 use Rattle.circuit.specs.Decompose.{digit}
 use Rattle.circuit.specs.Orders.{addition, composition, conversion, decomposition, scaling, shifting, wordBit}
+use Rattle.circuit.proofs.BitsLaw.{bit-lt, gather-lt}
 use Rattle.value.specs.Ranges.{AddRange, ComposeRange, ConvertRange, DecomposeRange, MultiplyRange, ScaleRange, ShiftRange}
-use Rattle.value.proofs.BitsLaw.{bit-lt, gather-lt}
 use Rattle.value.proofs.ComposeLaw.{compose-sums}
 use Rattle.value.proofs.DecomposeLaw.{digit-lt}
 use Rattle.value.proofs.GateLaw.{multiplication-is, result-is}

@@ -15,10 +15,11 @@ use Rattle.circuit.specs.Circuits.{ends, heads, result, tails}
 use Rattle.circuit.specs.Compose.{composeGates, summingStart}
 use Rattle.circuit.specs.Decompose.{decomposeGates, digit, digitsStart}
 use Rattle.circuit.specs.Orders.{addition, composition, conversion, decomposition, quotientBit, quotientGate, quotientStart, scaling, shifting, wordBit}
+use Rattle.circuit.proofs.BitsLaw.{bit-lt, gather-high, gather-lt, gather-same}
 use Rattle.circuit.proofs.RunLaw.{step}
 use Rattle.value.specs.Values.{Adds, Composes, Converts, ConvertsSmall, Decomposes, DecomposesSmall, Multiplies, QuotientTransfer, RoundTrip, Scales, Shifts, ShiftsSmall, lifted, roundedUp, summed}
 use Rattle.value.proofs.AdderLaw.{digit-at-lt, digitAt, gather-digits}
-use Rattle.value.proofs.BitsLaw.{bit-lt, exclusive-gather, exclusive-opens, gather-high, gather-lt, gather-same}
+use Rattle.value.proofs.BitsLaw.{exclusive-gather, exclusive-opens}
 use Rattle.value.proofs.ComposeLaw.{compose-sums, openedBit}
 use Rattle.value.proofs.ConvertLaw.{converted-total, quotient-bit-lt, quotient-holds}
 use Rattle.value.proofs.DecomposeLaw.{decompose-holds, digit-lt, digit-total}
