@@ -17,7 +17,7 @@ pub record Figure : Type 0 where
 abbrev listed : (Place → ℕ) → List ℕ
 listed x = x p0 ∷ x p1 ∷ x p2 ∷ []
 
--- some items in range of every modulus: no value depends on them
+-- some items in range of every modulus, those past the list being 0: no value depends on them
 abbrev tapes : Place → List ℕ
 tapes = three (1 ∷ 0 ∷ 1 ∷ 1 ∷ 0 ∷ []) (0 ∷ 1 ∷ 1 ∷ 0 ∷ 1 ∷ []) (1 ∷ 1 ∷ 0 ∷ 0 ∷ 1 ∷ [])
 

@@ -1,14 +1,9 @@
 -- Laws of places: what holds at one holds at each, by one statement.
-use Prim.Native.Nat.{ℕ, _<_}
+use Prim.Native.Nat.{ℕ}
 use mathlib.Core.Path.{_≡_, fun-ext, refl}
 use Rattle.gate.specs.Gates.{gated, word}
-use Rattle.gate.specs.Places.{Below, InRange, Place, held, next, p0, p1, p2, parts, sharing, tabled}
+use Rattle.gate.specs.Places.{Below, InRange, Place, held, p0, p1, p2, parts, sharing, tabled}
 use Rattle.gate.specs.declared.sharing.Sharing.{Sharing}
-
-pub next-thrice : (i : Place) → next (next (next i)) ≡ i
-next-thrice p0 = refl
-next-thrice p1 = refl
-next-thrice p2 = refl
 
 -- what holds at the three places holds at every place
 pub each {ℓ} : (P : Place → Type ℓ) → P p0 → P p1 → P p2 → (i : Place) → P i
@@ -34,6 +29,3 @@ parts-sharing x = tabled-is x
 
 pub in-range : {m : ℕ} (x : Sharing) → Below m (parts x) → InRange m x
 in-range x h = record { zero = h p0; one = h p1; two = h p2 }
-
-pub parts-below : {m : ℕ} {x : Sharing} → InRange m x → Below m (parts x)
-parts-below {m} {x} h = each (λ i. parts x i < m) (h .zero) (h .one) (h .two)
