@@ -17,15 +17,15 @@ use Rattle.circuit.specs.Lent.{Left, Long}
 use Rattle.circuit.proofs.LentLaw.{part-is}
 use Rattle.circuit.proofs.RunLaw.{length-sent}
 use Rattle.compose.proofs.RunsLaw.{partsFrom, putBack}
-use Rattle.machine.specs.Checks.{firstMet, uneven}
+use Rattle.machine.specs.Checks.{anyBad, firstMet, gateChecks, uneven}
 use Rattle.machine.specs.Registers.{publicOf, registerOf}
 use Rattle.machine.specs.Step as defined
-use Rattle.machine.specs.Step.{refused, written}
+use Rattle.machine.specs.Step.{refused, stored, written}
 use Rattle.machine.specs.declared.answers.Refusal.{Refusal}
 use Rattle.machine.specs.declared.registers.Machine.{Machine}
 use Rattle.machine.specs.declared.registers.Register.{Register}
 use Rattle.order.specs.Answers.{numberOf, reported, verdictOf}
-use Rattle.order.specs.Attempts.{anyBad, attempted, lengthVerdict, lengthsOf, masksLeft, ran, roomChecks, stored, tried}
+use Rattle.order.specs.Attempts.{attempted, lengthVerdict, lengthsOf, masksLeft, ran, tried}
 use Rattle.order.specs.Tasks.{Costs, Fit, Ready, Seated, circuitOf, kindLeft, otherOf, sourceOf}
 use Rattle.order.specs.declared.answers.Outcome.{Outcome}
 use Rattle.order.specs.declared.answers.Verdict.{Verdict}
@@ -57,7 +57,7 @@ even a b c e =
 
 -- no check of lengths refuses: enough is left on each run
 pub long-enough : (m : Machine) (n : ℕ) (t₀ t₁ t₂ c₀ c₁ c₂ : List ℕ) {v : Verdict}
-    → verdictOf v ≡ firstMet (roomChecks n (publicOf m) (lengthsOf (three t₀ t₁ t₂) (three c₀ c₁ c₂)))
+    → verdictOf v ≡ firstMet (gateChecks n (publicOf m) (lengthsOf (three t₀ t₁ t₂) (three c₀ c₁ c₂)))
     → v ≡ Fine
     → Long (m .«masks_at» + n) t₀ t₁ t₂ × Long (m .«channels_at» + n) c₀ c₁ c₂
 long-enough m n t₀ t₁ t₂ c₀ c₁ c₂ verdict is =
@@ -86,7 +86,7 @@ put-written k n u ws h counted is =
 
 module _ (t : Task) (d : ℕ) (m : Machine) {k : Cost} (cost : Costs t k) where
   -- checks of lengths that refuse, or do not
-  module _ (T c : Place → List ℕ) {v : Verdict} (verdict : verdictOf v ≡ firstMet (roomChecks (k .bits + k .ring) (publicOf m) (lengthsOf T c))) where
+  module _ (T c : Place → List ℕ) {v : Verdict} (verdict : verdictOf v ≡ firstMet (gateChecks (k .bits + k .ring) (publicOf m) (lengthsOf T c))) where
     is-verdict : {u : Verdict} → v ≡ u → lengthVerdict t m T c ≡ verdictOf u
     is-verdict e = rw (gates-cost cost) (sym verdict ∙ ap verdictOf e)
 
@@ -118,7 +118,7 @@ module _ (t : Task) (d : ℕ) (m : Machine) {k : Cost} (cost : Costs t k) where
         → Left (circuitOf t) (parts (sourceOf t)) (parts (otherOf t)) (partsFrom (m .«masks_at») t₀ t₁ t₂)
         (partsFrom (m .«channels_at») c₀ c₁ c₂) z (three h₀ h₁ h₂)
         → r ≡ registerOf (kindLeft t) z
-        → ((c : Place → List ℕ) → reported o c ≡ stored d r (k .bits + k .ring) m c)
+        → ((c : Place → List ℕ) → reported o c ≡ stored d r (k .bits + k .ring) 0 m c)
         → reported o (putBack (m .«channels_at») c₀ c₁ c₂ h₀ h₁ h₂) ≡ tried t d m (three t₀ t₁ t₂) (three c₀ c₁ c₂)
     unfolding tried ran channelled
     gates-tried {z} {h₀} {h₁} {h₂} {r} o e left kept is =

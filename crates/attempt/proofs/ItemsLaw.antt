@@ -14,8 +14,7 @@ use borrow.Rule.Slice.PartMut.{midOf}
 use Rattle.gate.specs.Places.{three}
 use Rattle.circuit.specs.Lent.{ItemsBelow}
 use Rattle.circuit.proofs.LentLaw.{part-is}
-use Rattle.machine.specs.Checks.{anyOutside}
-use Rattle.order.specs.Attempts.{anyBad}
+use Rattle.machine.specs.Checks.{anyBad, anyOutside}
 use Rattle.order.proofs.SoundLaw.{one-false, other-false}
 
 -- n items against one modulus, from item k on

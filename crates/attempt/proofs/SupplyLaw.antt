@@ -13,7 +13,7 @@ use Rattle.gate.specs.declared.sharing.Sharing.{Sharing}
 use Rattle.circuit.specs.Circuits.{gatesOf}
 use Rattle.circuit.specs.Lent.{ItemsBelow, Long}
 use Rattle.compose.proofs.RunsLaw.{long-less}
-use Rattle.order.specs.Attempts.{anyBad}
+use Rattle.machine.specs.Checks.{anyBad}
 use Rattle.order.specs.Tasks.{Costs, Decomposes, Fit, Multiplies, Shifts, circuitOf}
 use Rattle.order.specs.declared.tasks.Cost.{Cost}
 use Rattle.order.specs.declared.tasks.Task.{Task}

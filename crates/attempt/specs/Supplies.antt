@@ -3,9 +3,7 @@ use Prim.Native.Nat.{ℕ, _+_, _*_, _-_}
 use mathlib.Core.List.{List}
 use lib.ListN.{drop}
 use Rattle.ring.specs.Rings.{widthOf}
-use Rattle.gate.specs.Places.{three}
 use Rattle.circuit.specs.Lent.{ItemsBelow, Long}
-use Rattle.machine.specs.Checks.{Lengths}
 use Rattle.order.specs.Tasks.{costing}
 use Rattle.order.specs.declared.tasks.Cost.{Cost}
 use Rattle.order.specs.declared.tasks.Task.{Task}
@@ -25,7 +23,3 @@ pub record Supplied (k : Cost) (t₀ t₁ t₂ c₀ c₁ c₂ : List ℕ) : Type
   pub room : Long (k .bits + k .ring) c₀ c₁ c₂
   pub first : ItemsBelow 2 (k .bits) t₀ t₁ t₂
   pub items : ItemsBelow (k .modulus) (k .ring) (drop (k .bits) t₀) (drop (k .bits) t₁) (drop (k .bits) t₂)
-
--- the lengths of mask tapes and channels
-abbrev pub lengthsIn : (m₀ m₁ m₂ c₀ c₁ c₂ : ℕ) → Lengths
-lengthsIn m₀ m₁ m₂ c₀ c₁ c₂ = record { masks = three m₀ m₁ m₂; dealer = 0; channels = three c₀ c₁ c₂ }

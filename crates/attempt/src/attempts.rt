@@ -3,12 +3,11 @@ ghost use mathlib.Core.Path.{_≡_};
 ghost use Prim.Native.Nat.{_+_};
 ghost use Rattle.gate.specs.Places.{three};
 ghost use Rattle.circuit.specs.Lent.{Long};
-ghost use Rattle.machine.specs.Checks.{firstMet};
+ghost use Rattle.machine.specs.Checks.{firstMet, gateChecks};
 ghost use Rattle.machine.specs.Registers.{publicOf};
 ghost use Rattle.order.specs.Answers.{reported, verdictOf};
-ghost use Rattle.order.specs.Attempts.{attempted, roomChecks, tried};
+ghost use Rattle.order.specs.Attempts.{attempted, lengthsIn, tried};
 ghost use Rattle.order.specs.Tasks.{Costs, Fit, Ready, Seated};
-ghost use Rattle.attempt.specs.Supplies.{lengthsIn};
 use crate::items::bad_items;
 use crate::words::words;
 use machine::Machine;
@@ -26,7 +25,7 @@ use order::uneven;
 
 // Checks 8, 9 and 11, for n gates, on the lengths of mask tapes and channels.
 fn room(m: Machine, n: u64, m0: u64, m1: u64, m2: u64, c0: u64, c1: u64, c2: u64) -> Verdict
-    ensures { λ v. ⌜ verdictOf v ≡ firstMet (roomChecks n (publicOf m) (lengthsIn m0 m1 m2 c0 c1 c2)) ⌝ }
+    ensures { λ v. ⌜ verdictOf v ≡ firstMet (gateChecks n (publicOf m) (lengthsIn (three m0 m1 m2) (three c0 c1 c2))) ⌝ }
 {
     let even = refuse_if(uneven(m0, m1, m2) | uneven(c0, c1, c2), Refusal::BadLength);
     let masks = refuse_if(too_few(m0, m.masks_at, n), Refusal::TapeShort);
@@ -63,7 +62,7 @@ fn run(
     }
     let ch = m.channels_at as usize;
     let z = words(t, t0, t1, t2, &mut c0[ch..], &mut c1[ch..], &mut c2[ch..]);
-    stored(m, d, t.left(z), k.bits + k.ring)
+    stored(m, d, t.left(z), k.bits + k.ring, 0)
 }
 
 // A task, with the checks of lengths.
@@ -113,7 +112,7 @@ pub fn attempt(
 {
     match t {
         Prepared::Because(w) => refused(m, w),
-        Prepared::Local(r) => stored(m, d, r, 0),
+        Prepared::Local(r) => stored(m, d, r, 0, 0),
         Prepared::Gates(g) => perform(m, d, g, m0, m1, m2, c0, c1, c2),
     }
 }

@@ -5,8 +5,7 @@ ghost use Prim.Native.Nat.{_+_, _≤_};
 ghost use lib.ListN.{length, replicate};
 ghost use Rattle.gate.specs.Places.{three};
 ghost use Rattle.circuit.specs.Lent.{Long};
-ghost use Rattle.machine.specs.Checks.{anyOutside};
-ghost use Rattle.order.specs.Attempts.{anyBad};
+ghost use Rattle.machine.specs.Checks.{anyBad, anyOutside};
 use order::Cost;
 
 // Whether one of the first n items is p or more.

@@ -13,7 +13,7 @@ use Rattle.gate.specs.Places.{Place, p0, p1, p2}
 use Rattle.gate.proofs.PlaceLaw.{each}
 use Rattle.circuit.specs.Circuits.{Gate, gatesOf, moduli}
 use Rattle.view.specs.Views.{Fits, more, none}
-use Rattle.machine.specs.Checks.{Check, Lengths, Tapes, anyOutside, badItem, check, firstMet, leftOf, lengthChecks, publicChecks, uneven}
+use Rattle.machine.specs.Checks.{Check, Lengths, Tapes, anyBad, anyOutside, badItem, check, firstMet, leftOf, lengthChecks, publicChecks, uneven}
 use Rattle.machine.specs.Registers.{Public, publicOf, sound}
 use Rattle.machine.specs.Step.{checks, lengthsOf, step}
 use Rattle.machine.specs.Work.{Work, adjusts, computes, deals, opens, workOf}
@@ -139,6 +139,7 @@ left-long a g l h = rw (length-drop a l) (omega arith)
 -- an accepted order's items are in range
 inside-by : (w : Work) (p : Public) (T : Tapes) (c : Place → List ℕ) → Lends w p (lengthsOf T c) → badItem w (leftOf p T) ≡ false
     → Inside w (leftOf p T)
+unfolding anyBad
 inside-by (deals d e v) p T c lend e₀ =
     let left = drop (p .dealerAt) (T .dealer) in
     let both = neither (leb (modulus e) (getD left 0 0)) (leb (modulus e) (getD left 1 0)) e₀ in
@@ -160,6 +161,7 @@ accepted-inside {o} {m} {T} {c} a = inside-by (workOf o (publicOf m)) (publicOf 
 
 -- items in range pass the test
 pub inside-passes : (w : Work) (left : Tapes) → Inside w left → badItem w left ≡ false
+unfolding anyBad
 inside-passes (deals d e v) left inside = both-false (lt-leb _ _ (inside .0)) (lt-leb _ _ (inside .1))
 inside-passes (adjusts C d x y kind) left inside = refl
 inside-passes (computes C d x y kind) left inside =

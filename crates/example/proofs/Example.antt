@@ -12,7 +12,7 @@ use Rattle.circuit.specs.Compose.{composeGates, firstGate, secondGate}
 use Rattle.circuit.specs.Decompose.{carryGate, decomposeGates, raisingGate, runningGate, zeroGate}
 use Rattle.circuit.specs.Orders.{addition, composition, conversion, decomposition, multiplication, quotientGate, scaling, shifting}
 use Rattle.view.specs.Views.{lackedBy}
-use Rattle.machine.specs.Checks.{Tapes, anyAbove15, anyOutside, firstMet, publicChecks}
+use Rattle.machine.specs.Checks.{Tapes, anyAbove15, anyBad, anyOutside, firstMet, publicChecks}
 use Rattle.machine.specs.Registers.{emptyMachine, registerAt, sound, soundRegister, soundSlots, withRegister}
 use Rattle.machine.specs.Step.{Outcome, checks, computed, dealt, opened, step}
 use Rattle.job.specs.Jobs.{Alike, AlikeLists, Entry, Fair, IsRun, Job, Words, course, courseFrom, openedFrom, opens, views}
@@ -25,7 +25,7 @@ use Rattle.example.proofs.TestLaw.{allWords, fair-of, fairly, words-of}
 
 -- a run's course, with all that it computes with
 unfoldable pub course-open : Job → Tapes → List Outcome
-unfolding diff bitOf modulus quarter ringOf crossed gated mask word total exclusive gather after channelled ends result sent upto words composeGates firstGate secondGate carryGate decomposeGates raisingGate runningGate zeroGate addition composition conversion decomposition multiplication quotientGate scaling shifting anyAbove15 anyOutside firstMet publicChecks emptyMachine registerAt sound soundRegister soundSlots withRegister checks computed dealt opened step course courseFrom openedFrom T T′ dealing afterDeals
+unfolding diff bitOf modulus quarter ringOf crossed gated mask word total exclusive gather after channelled ends result sent upto words composeGates firstGate secondGate carryGate decomposeGates raisingGate runningGate zeroGate addition composition conversion decomposition multiplication quotientGate scaling shifting anyAbove15 anyBad anyOutside firstMet publicChecks emptyMachine registerAt sound soundRegister soundSlots withRegister checks computed dealt opened step course courseFrom openedFrom T T′ dealing afterDeals
 course-open J T = course J T
 
 -- the two runs: what is answered, and the values held at the end

@@ -15,7 +15,7 @@ use Rattle.ring.specs.declared.rings.Ring.{Ring}
 use Rattle.gate.specs.Places.{Place}
 use Rattle.machine.specs.Checks.{Tapes, check, firstMet, noRing, publicChecks}
 use Rattle.machine.specs.Registers.{million, registerOf, sound}
-use Rattle.machine.specs.Step.{Outcome, checks, dealt, dealtShares, step}
+use Rattle.machine.specs.Step.{Outcome, checks, dealt, dealtShares, step, stored}
 use Rattle.machine.specs.Work.{numberKind}
 use Rattle.machine.specs.declared.answers.Answer.{Answer}
 use Rattle.machine.specs.declared.answers.Answer.the-variants.{Refused}
@@ -29,7 +29,7 @@ use Rattle.order.specs.Tasks.{Seated}
 use Rattle.order.proofs.KindlyLaw.{unmet, unmet-rest}
 use Rattle.order.proofs.PrepareLaw.{width-named}
 use Rattle.order.proofs.SoundLaw.{one-false, other-false}
-use Rattle.exchange.specs.Exchanges.{dealChecks, dealtIn, dealtRegister, numberChecks}
+use Rattle.exchange.specs.Exchanges.{dealChecks, dealtRegister, numberChecks}
 use Rattle.exchange.proofs.CheckLaw.{begun, last-passed, met, others, passed, step-performed, step-refused, there}
 
 -- past the end of a tape
@@ -120,9 +120,9 @@ module _ (m : Machine) (d e v : ℕ) (D : List ℕ) {r₀ r₁ : ℕ}
   deal-refused is h = step-refused (Deal d e v) m lent c is (checks-are h)
 
   pub deal-done : {o : Outcome} {a : Register} → firstMet (dealChecks m d e v (length D) r₀ r₁) ≡ 0
-      → o ≡ dealtIn d a m c → a ≡ dealtRegister e v r₀ r₁ → o ≡ step (Deal d e v) m lent c
+      → o ≡ stored d a 0 2 m c → a ≡ dealtRegister e v r₀ r₁ → o ≡ step (Deal d e v) m lent c
   unfolding dealt
   deal-done fine is register =
       is
-      ∙ ap (λ (a : Register). dealtIn d a m c) (register ∙ ap₂ (dealtRegister e v) first second)
+      ∙ ap (λ (a : Register). stored d a 0 2 m c) (register ∙ ap₂ (dealtRegister e v) first second)
       ∙ step-performed (Deal d e v) m lent c (checks-are (sym fine))

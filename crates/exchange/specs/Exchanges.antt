@@ -6,8 +6,8 @@ use lib.Dec.{leb, ltb}
 use Rattle.ring.specs.Rings.{modulus, ringOf}
 use Rattle.gate.specs.Places.{Place}
 use Rattle.machine.specs.Checks.{Check, check, isEmpty, noRing, tooFew, uneven}
-use Rattle.machine.specs.Registers.{kindAt, million, publicOf, registerOf, withRegister}
-use Rattle.machine.specs.Step.{Outcome, dealtShares, moved}
+use Rattle.machine.specs.Registers.{kindAt, million, publicOf, registerOf}
+use Rattle.machine.specs.Step.{dealtShares}
 use Rattle.machine.specs.Work.{numberKind}
 use Rattle.machine.specs.declared.registers.Machine.{Machine}
 use Rattle.machine.specs.declared.registers.Register.{Register}
@@ -35,8 +35,3 @@ openChecks m x n = beginChecks m (x ∷ []) ++ (check (isEmpty (kindAt (publicOf
 -- "sub-shares r0, r1, v - r0 - r1 modulo p"
 abbrev pub dealtRegister : (e v r₀ r₁ : ℕ) → Register
 dealtRegister e v r₀ r₁ = registerOf (numberKind (ringOf e)) (dealtShares (modulus e) v r₀ r₁)
-
--- a register put into d, two items of the dealer's tape taken
-abbrev pub dealtIn : ℕ → Register → Machine → (Place → List ℕ) → Outcome
-dealtIn d a m c =
-    record { machine = withRegister (moved m 0 0 2) d a; refusal = 0; value = 0; gates = 0; channels = c }

@@ -9,8 +9,7 @@ ghost use Rattle.machine.specs.Checks.{firstMet};
 ghost use Rattle.machine.specs.Registers.{million};
 ghost use Rattle.machine.specs.Step.{step};
 ghost use Rattle.order.specs.Answers.{refusalOf, reported};
-ghost use Rattle.order.specs.Tasks.{Seated};
-ghost use Rattle.exchange.specs.Exchanges.{dealChecks, dealtIn, dealtRegister, numberChecks};
+ghost use Rattle.exchange.specs.Exchanges.{dealChecks, dealtRegister, numberChecks};
 use gate::Sharing;
 use machine::Answer;
 use machine::Machine;
@@ -18,6 +17,7 @@ use machine::Order;
 use machine::Refusal;
 use machine::Register;
 use order::Outcome;
+use order::stored;
 use ring::OfWidth;
 use ring::Ring;
 
@@ -91,18 +91,6 @@ fn dealt_register(e: u64, v: u64, r0: u64, r1: u64) -> Register
     }
 }
 
-// Register a in d, two items taken.
-fn dealt(m: Machine, d: u64, a: Register) -> Outcome
-    requires { ⌜ Seated m d ⌝ }
-    ensures { λ o. ⌜ ((c : Place → List ℕ) → reported o c ≡ dealtIn d a m c) ⌝ }
-{
-    let n = m.moved(0, 0, 2);
-    Outcome {
-        machine: n.with_register(d, a),
-        answer: Answer::Done { value: 0, gates: 0 },
-    }
-}
-
 // Order 1.
 pub fn deal(m: Machine, d: u64, e: u64, v: u64, dealer: &[u64]) -> Outcome
     ensures { λ o. ⌜ ((M c : Place → List ℕ) → reported o c ≡ step (Order.Deal d e v) m (record { masks = M; dealer = now (dealer .entry) }) c) ⌝ }
@@ -115,6 +103,6 @@ pub fn deal(m: Machine, d: u64, e: u64, v: u64, dealer: &[u64]) -> Outcome
             machine: m,
             answer: a,
         },
-        Answer::Done { value: _, gates: _ } => dealt(m, d, dealt_register(e, v, r0, r1)),
+        Answer::Done { value: _, gates: _ } => stored(m, d, dealt_register(e, v, r0, r1), 0, 2),
     }
 }

@@ -4,11 +4,11 @@ use mathlib.Core.Bool.{Bool, cond, false, not, true, _&&_, _||_}
 use mathlib.Core.List.{List, [], _∷_, _++_}
 use lib.Dec.{eqb, leb, ltb}
 use lib.ListN.{drop, getD, length}
-use Rattle.ring.specs.Rings.{modulus, ringOf, widthOf}
+use Rattle.ring.specs.Rings.{modulus, ringOf}
 use Rattle.ring.specs.declared.rings.OfWidth.{OfWidth}
 use Rattle.ring.specs.declared.rings.OfWidth.the-variants.{Named, NoRing}
 use Rattle.gate.specs.Places.{Place, p0, p1, p2, tabled}
-use Rattle.circuit.specs.Circuits.{Circuit, gatesOf, moduli}
+use Rattle.circuit.specs.Circuits.{gatesOf, moduli}
 use Rattle.machine.specs.Registers.{Kind, Public, bits, empty, kindAt, million, number, widthAt}
 use Rattle.machine.specs.Work.{Work, adjusts, computes, deals, opens, workOf}
 use Rattle.machine.specs.declared.orders.Order.{Order}
@@ -108,12 +108,12 @@ uneven n = not (eqb (n p0) (n p1)) || (not (eqb (n p1) (n p2)) || ltb million (n
 abbrev pub tooFew : (Place → ℕ) → ℕ → ℕ → Bool
 tooFew lengths at n = ltb (lengths p0) (at + n)
 
--- "All with gates, last: 8 ..; 9 ..; 11 .."
-abbrev pub gateChecks : Circuit → Public → Lengths → List Check
-gateChecks C p len =
+-- "All with gates, last: 8 ..; 9 ..; 11 ..", for n gates
+abbrev pub gateChecks : ℕ → Public → Lengths → List Check
+gateChecks n p len =
     check (uneven (len .masks) || uneven (len .channels)) 8
-    ∷ check (tooFew (len .masks) (p .masksAt) (gatesOf C)) 9
-    ∷ check (tooFew (len .channels) (p .channelsAt) (gatesOf C)) 11
+    ∷ check (tooFew (len .masks) (p .masksAt) n) 9
+    ∷ check (tooFew (len .channels) (p .channelsAt) n) 11
     ∷ []
 
 -- the checks of lengths
@@ -121,7 +121,7 @@ abbrev pub lengthChecks : Work → Public → Lengths → List Check
 lengthChecks (deals d e v) p len =
     check (ltb million (len .dealer)) 8 ∷ check (ltb (len .dealer) (p .dealerAt + 2)) 9 ∷ []
 lengthChecks (adjusts C d x y kind) p len = []
-lengthChecks (computes C d x y kind) p len = gateChecks C p len
+lengthChecks (computes C d x y kind) p len = gateChecks (gatesOf C) p len
 lengthChecks (opens x) p len =
     check (uneven (len .channels)) 8 ∷ check (tooFew (len .channels) (p .channelsAt) 1) 11 ∷ []
 
@@ -134,13 +134,15 @@ unfoldable pub anyOutside : List ℕ → List ℕ → Bool
 anyOutside [] items = false
 anyOutside (m ∷ ms) items = leb m (getD items 0 0) || anyOutside ms (drop 1 items)
 
--- "10 an item is p or more", of a deal; and of an order with gates, on each of the three tapes
+-- and of the three tapes
+unfoldable pub anyBad : List ℕ → (Place → List ℕ) → Bool
+anyBad ms T = anyOutside ms (T p0) || (anyOutside ms (T p1) || anyOutside ms (T p2))
+
+-- "10 an item is p or more", of a deal; and of an order with gates
 abbrev pub badItem : Work → Tapes → Bool
 badItem (deals d e v) left = leb (modulus e) (getD (left .dealer) 0 0) || leb (modulus e) (getD (left .dealer) 1 0)
 badItem (adjusts C d x y kind) left = false
-badItem (computes C d x y kind) left =
-    anyOutside (moduli (C .gates)) (left .masks p0)
-    || (anyOutside (moduli (C .gates)) (left .masks p1) || anyOutside (moduli (C .gates)) (left .masks p2))
+badItem (computes C d x y kind) left = anyBad (moduli (C .gates)) (left .masks)
 badItem (opens x) left = false
 
 -- all that stands between 1 and 10: a function of what is public, but for the number of a deal

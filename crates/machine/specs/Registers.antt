@@ -7,6 +7,7 @@ use lib.ListN.{getD, replicate, set}
 use Rattle.ring.specs.Rings.{modulusOf, widthOf}
 use Rattle.ring.specs.declared.rings.Ring.{Ring}
 use Rattle.gate.specs.declared.sharing.Sharing.{Sharing}
+use Rattle.circuit.specs.Sharings.{zeros}
 use Rattle.machine.specs.declared.registers.Machine.{Machine}
 use Rattle.machine.specs.declared.registers.Register.{Register}
 use Rattle.machine.specs.declared.registers.Register.the-variants.{Bits, Empty, Number}
@@ -24,11 +25,8 @@ kindOf (Number r x) = number r
 kindOf (Bits l x) = bits l
 
 -- its sub-shares; an empty one has none
-abbrev pub none : Sharing
-none = record { s0 = 0; s1 = 0; s2 = 0 }
-
 abbrev pub sharesOf : Register → Sharing
-sharesOf Empty = none
+sharesOf Empty = zeros
 sharesOf (Number r x) = x
 sharesOf (Bits l x) = x
 

@@ -1,12 +1,12 @@
 -- What each order does: record, answer and channels, for every record, tape and channel.
 use Prim.Native.Nat.{ℕ, _+_}
-use mathlib.Core.Bool.{Bool, cond, not}
+use mathlib.Core.Bool.{cond, not}
 use mathlib.Core.List.{List, [], _∷_, _++_}
 use lib.Dec.{eqb}
 use lib.ListN.{drop, getD, length, take}
 use Rattle.ring.specs.Modular.{diff}
 use Rattle.ring.specs.Rings.{modulus, modulusOf, ringOf}
-use Rattle.gate.specs.Places.{Place, next, p0, p1, p2, parts, sharing, tabled, three, total}
+use Rattle.gate.specs.Places.{Place, next, parts, sharing, tabled, total}
 use Rattle.gate.specs.declared.sharing.Sharing.{Sharing}
 use Rattle.circuit.specs.Bits.{exclusive}
 use Rattle.circuit.specs.Circuits.{Circuit, channelled, gatesOf, result}
@@ -60,33 +60,26 @@ moved m gates words items =
       «dealer_at» = m .«dealer_at» + items;
     }
 
+-- an accepted order that leaves r in d, with so many gates and dealer's items, and these channels
+abbrev pub stored : ℕ → Register → (gates items : ℕ) → Machine → (Place → List ℕ) → Outcome
+stored d r gates items m c =
+    record { machine = withRegister (moved m gates gates items) d r; refusal = 0; value = 0; gates = gates; channels = c }
+
 -- 1. "takes items r0, r1 of the dealer's tape; sub-shares r0, r1, v - r0 - r1 modulo p"
 abbrev pub dealtShares : ℕ → ℕ → ℕ → ℕ → Sharing
 dealtShares p v r₀ r₁ = record { s0 = r₀; s1 = r₁; s2 = diff p (diff p v r₀) r₁ }
 
 unfoldable pub dealt : (d e v : ℕ) → Machine → Tapes → (Place → List ℕ) → Outcome
 dealt d e v m left c =
-    record {
-      machine = withRegister (moved m 0 0 2) d
-          (registerOf (numberKind (ringOf e)) (dealtShares (modulus e) v (getD (left .dealer) 0 0) (getD (left .dealer) 1 0)));
-      refusal = 0;
-      value = 0;
-      gates = 0;
-      channels = c;
-    }
+    stored d (registerOf (numberKind (ringOf e)) (dealtShares (modulus e) v (getD (left .dealer) 0 0) (getD (left .dealer) 1 0))) 0 2 m c
 
 -- 2 to 8: the circuit's sub-shares in d, its words on the channels, its gates spent
 unfoldable pub computed : Circuit → (d x y : ℕ) → Kind → Machine → Tapes → (Place → List ℕ) → Outcome
 computed C d x y kind m left c =
     let X = parts (sharesOf (registerAt m x)) in
     let Y = parts (sharesOf (registerAt m y)) in
-    record {
-      machine = withRegister (moved m (gatesOf C) (gatesOf C) 0) d (registerOf kind (sharing (result C X Y (left .masks))));
-      refusal = 0;
-      value = 0;
-      gates = gatesOf C;
-      channels = tabled (λ i. written (m .«channels_at») (channelled C X Y (left .masks) i) (c i));
-    }
+    stored d (registerOf kind (sharing (result C X Y (left .masks)))) (gatesOf C) 0 m
+    (tabled (λ i. written (m .«channels_at») (channelled C X Y (left .masks) i) (c i)))
 
 -- 9. "unit i sends sub-share i+1; the answer is the value. One word a wire, no gate"
 unfoldable pub opened : ℕ → Machine → (Place → List ℕ) → Outcome

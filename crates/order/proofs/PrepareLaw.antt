@@ -1,8 +1,8 @@
 -- Orders 2 to 8, each from its verdict and its sources as the code finds them.
-use Prim.Native.Nat.{ℕ, _-_, _<_, _≤_}
+use Prim.Native.Nat.{ℕ, _-_, _<_}
 use mathlib.Core.Bool.{Bool, cond, false, not, true, _&&_, _||_}
 use mathlib.Core.List.{List, [], _∷_, _++_}
-use mathlib.Core.Path.{_≡_, refl, ap, ap₂, sym, _∙_}
+use mathlib.Core.Path.{_≡_, refl, ap, sym, _∙_}
 use borrow.Author.Tests.{eqb-true, leb-false, leb-true, not-false}
 use lib.Dec.{eqb, leb}
 use Rattle.ring.specs.Rings.{modulus, modulusOf, ringOf, widthOf}
@@ -15,7 +15,7 @@ use Rattle.gate.specs.declared.sharing.Sharing.{Sharing}
 use Rattle.circuit.specs.Circuits.{ends, result}
 use Rattle.circuit.specs.Orders.{addition, composition, conversion, decomposition, multiplication, scaling, shifting}
 use Rattle.machine.specs.Checks.{Check, aNumber, anyAbove15, check, firstMet, isBits, isEmpty, isNumber, kindChecks, named, noRing, twoNumbers}
-use Rattle.machine.specs.Registers.{Kind, bits, countAt, empty, kindAt, kindOf, number, publicOf, registerAt, registerOf, sharesOf, sound, widthAt}
+use Rattle.machine.specs.Registers.{Kind, bits, countAt, empty, kindAt, kindOf, number, publicOf, registerAt, sharesOf, sound, widthAt}
 use Rattle.machine.specs.Work.{adjusts, computes, numberKind}
 use Rattle.machine.specs.declared.orders.Order.{Order}
 use Rattle.machine.specs.declared.orders.Order.the-variants.{Add, Compose, Convert, Decompose, Multiply, Scale, Shift}
@@ -24,7 +24,7 @@ use Rattle.machine.specs.declared.registers.Register.{Register}
 use Rattle.machine.specs.declared.registers.Register.the-variants.{Number}
 use Rattle.machine.proofs.KindLaw.{left-true, right-true}
 use Rattle.order.specs.Attempts.{Prepares, beginChecks, kindly}
-use Rattle.order.specs.Tasks.{Seated, scaledBy, summed}
+use Rattle.order.specs.Tasks.{addedTo, scaledBy}
 use Rattle.order.specs.declared.tasks.Prepared.the-variants.{Gates, Local}
 use Rattle.order.specs.declared.tasks.Task.the-variants as task
 use Rattle.order.proofs.KindlyLaw.{unmet, unmet-rest}
@@ -243,7 +243,7 @@ module _ (m : Machine) where
           pair-right x y (good o fine) (kinds o fine) left right ring shares others,
         )
 
-    pub add-prepares : {z : Sharing} → kindly (Add d x y) m ≡ 0 → z ≡ summed (modulusOf r) s t → Prepares (Add d x y) m d (Local (Number r z))
+    pub add-prepares : {z : Sharing} → kindly (Add d x y) m ≡ 0 → z ≡ addedTo (modulusOf r) s t → Prepares (Add d x y) m d (Local (Number r z))
     unfolding addition result ends
     add-prepares {z} fine e =
         let o = Add d x y in

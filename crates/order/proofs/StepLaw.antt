@@ -7,19 +7,18 @@ use native.Mathlib.Nat.{add-zero}
 use lib.Dec.{eqb}
 use lib.ListN.{drop, length, take, take-append-drop}
 use Rattle.gate.specs.Places.{Place, parts, sharing, tabled}
-use Rattle.gate.specs.declared.sharing.Sharing.{Sharing}
 use Rattle.gate.proofs.PlaceLaw.{tabled-is}
-use Rattle.circuit.specs.Circuits.{Circuit, Gate, channelled, gatesOf, moduli, result, sent, starts}
+use Rattle.circuit.specs.Circuits.{Circuit, Gate, channelled, gatesOf, result, sent, starts}
 use Rattle.machine.specs.Checks.{Check, Tapes, badItem, check, firstMet, gateChecks, kindChecks, leftOf, lengthChecks, named, publicChecks}
-use Rattle.machine.specs.Registers.{Kind, publicOf, registerAt, registerOf, sharesOf, sound}
-use Rattle.machine.specs.Step.{Outcome, checks, computed, lengthsOf, performed, refused, step, written}
+use Rattle.machine.specs.Registers.{Kind, publicOf, registerAt, registerOf, sharesOf}
+use Rattle.machine.specs.Step.{Outcome, checks, computed, lengthsOf, performed, refused, step, stored, written}
 use Rattle.machine.specs.Work.{Work, adjusts, computes, workOf}
 use Rattle.machine.specs.declared.answers.Refusal.{Refusal}
 use Rattle.machine.specs.declared.orders.Order.{Order}
 use Rattle.machine.specs.declared.registers.Machine.{Machine}
 use Rattle.machine.specs.declared.registers.Register.{Register}
 use Rattle.order.specs.Answers.{firstOf, numberOf, verdictOf}
-use Rattle.order.specs.Attempts.{Prepares, anyBad, attempted, beginChecks, kindly, lengthVerdict, masksLeft, ran, stored, tried}
+use Rattle.order.specs.Attempts.{Prepares, attempted, beginChecks, kindly, lengthVerdict, masksLeft, ran, tried}
 use Rattle.order.specs.Tasks.{Fit, Seated, circuitOf, kindLeft, otherOf, sourceOf}
 use Rattle.order.specs.declared.answers.Verdict.{Verdict}
 use Rattle.order.specs.declared.answers.Verdict.the-variants as verdict
@@ -65,7 +64,7 @@ module _ (m : Machine) (d x y : ℕ) where
   local-is : (C : Circuit) (kind : Kind) (r : Register) (D : List ℕ) (T c : Place → List ℕ)
       → C .gates ≡ []
       → registerOf kind (sharing (result C (parts (sharesOf (registerAt m x))) (parts (sharesOf (registerAt m y))) (masksLeft m T))) ≡ r
-      → later (adjusts C d x y kind) m (tapes D T) c ≡ stored d r 0 m c
+      → later (adjusts C d x y kind) m (tapes D T) c ≡ stored d r 0 0 m c
   unfolding firstMet computed channelled sent
   local-is C kind r D T c none is =
       let X = parts (sharesOf (registerAt m x)) in
@@ -76,8 +75,8 @@ module _ (m : Machine) (d x y : ℕ) where
       = ap tabled (fun-ext (λ i. ap (λ (ws : List ℕ). written (m .«channels_at») ws (c i)) (words i) ∙ none-written (m .«channels_at») (c i)))
       ∙ tabled-is c in
       let count : gatesOf C ≡ 0 = ap length none in
-      ap₂ (λ (n : ℕ) (l : Place → List ℕ). stored d (registerOf kind (sharing (result C X Y (masksLeft m T)))) n m l) count same
-      ∙ ap (λ (a : Register). stored d a 0 m c) is
+      ap₂ (λ (n : ℕ) (l : Place → List ℕ). stored d (registerOf kind (sharing (result C X Y (masksLeft m T)))) n 0 m l) count same
+      ∙ ap (λ (a : Register). stored d a 0 0 m c) is
 
   ran-is : (t : Task) (T : Tapes) (c : Place → List ℕ) → sharesOf (registerAt m x) ≡ sourceOf t → sharesOf (registerAt m y) ≡ otherOf t
       → computed (circuitOf t) d x y (kindLeft t) m T c ≡ ran t d m (T .masks) c
@@ -86,14 +85,14 @@ module _ (m : Machine) (d x y : ℕ) where
 
   gates-are : (t : Task) (D : List ℕ) (T c : Place → List ℕ) → sharesOf (registerAt m x) ≡ sourceOf t → sharesOf (registerAt m y) ≡ otherOf t
       → later (computes (circuitOf t) d x y (kindLeft t)) m (tapes D T) c ≡ attempted (Gates t) d m T c
-  unfolding attempted tried anyBad firstMet
+  unfolding attempted tried firstMet
   gates-are t D T c left right =
       let C = circuitOf t in
       let p = publicOf m in
       let bad = badItem (computes C d x y (kindLeft t)) (leftOf p (tapes D T)) in
       let first = lengthVerdict t m T c in
       let good = computed C d x y (kindLeft t) m (leftOf p (tapes D T)) c in
-      ap (λ (n : ℕ). cond (eqb n 0) good (refused n m c)) (joined (gateChecks C p (lengthsOf (tapes D T) c)) (check bad 10 ∷ []) tt)
+      ap (λ (n : ℕ). cond (eqb n 0) good (refused n m c)) (joined (gateChecks (gatesOf C) p (lengthsOf (tapes D T) c)) (check bad 10 ∷ []) tt)
       ∙ settled Outcome first bad good (λ n. refused n m c)
       ∙ ap (λ (q : Outcome). cond (eqb first 0) (cond bad (refused 10 m c) q) (refused first m c)) (ran-is t (leftOf p (tapes D T)) c left right)
 

@@ -95,8 +95,8 @@ Ready m d (Local r) = Seated m d
 Ready m d (Gates t) = Seated m d × Fit t
 
 -- order 2: "sub-share by sub-share"
-abbrev pub summed : ℕ → Sharing → Sharing → Sharing
-summed p x y = record { s0 = (x .s0 + y .s0) % p; s1 = (x .s1 + y .s1) % p; s2 = (x .s2 + y .s2) % p }
+abbrev pub addedTo : ℕ → Sharing → Sharing → Sharing
+addedTo p x y = record { s0 = (x .s0 + y .s0) % p; s1 = (x .s1 + y .s1) % p; s2 = (x .s2 + y .s2) % p }
 
 -- order 3: "by a public c"
 abbrev pub scaledBy : ℕ → Sharing → ℕ → Sharing

@@ -4,9 +4,8 @@ ghost use mathlib.Core.List.{List};
 ghost use mathlib.Core.Path.{_≡_};
 ghost use Prim.Native.Nat.{ℕ, _≤_};
 ghost use Rattle.gate.specs.Places.{Place};
-ghost use Rattle.machine.specs.Step.{refused};
+ghost use Rattle.machine.specs.Step.{refused, stored};
 ghost use Rattle.order.specs.Answers.{firstOf, gatesOf, numberOf, refusalOf, reported, valueOf, verdictOf};
-ghost use Rattle.order.specs.Attempts.{stored};
 ghost use Rattle.order.specs.Tasks.{Seated};
 use machine::Answer;
 use machine::Machine;
@@ -106,13 +105,14 @@ pub fn refused(m: Machine, w: Refusal) -> Outcome
     }
 }
 
-// Register r in d, and so many gates spent.
-pub fn stored(m: Machine, d: u64, r: Register, gates: u64) -> Outcome
+// Register r in d, so many gates spent and dealer's items taken.
+pub fn stored(m: Machine, d: u64, r: Register, gates: u64, items: u64) -> Outcome
     requires seated { ⌜ Seated m d ⌝ }
     requires few { ⌜ gates ≤ 296 ⌝ }
-    ensures { λ o. ⌜ ((c : Place → List ℕ) → reported o c ≡ stored d r gates m c) ⌝ }
+    requires taken { ⌜ items ≤ 2 ⌝ }
+    ensures { λ o. ⌜ ((c : Place → List ℕ) → reported o c ≡ stored d r gates items m c) ⌝ }
 {
-    let n = m.moved(gates, gates, 0);
+    let n = m.moved(gates, gates, items);
     Outcome {
         machine: n.with_register(d, r),
         answer: Answer::Done { value: 0, gates },

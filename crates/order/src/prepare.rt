@@ -4,7 +4,7 @@ ghost use Prim.Native.Nat.{_<_};
 ghost use Rattle.ring.specs.Rings.{modulusOf};
 ghost use Rattle.gate.specs.Places.{InRange};
 ghost use Rattle.order.specs.Attempts.{Prepares};
-ghost use Rattle.order.specs.Tasks.{scaledBy, summed};
+ghost use Rattle.order.specs.Tasks.{addedTo, scaledBy};
 use crate::answers::Verdict;
 use crate::tasks::Prepared;
 use crate::tasks::Task;
@@ -25,7 +25,7 @@ use ring::Ring;
 fn sums(r: Ring, x: Sharing, y: Sharing) -> Sharing
     requires left { ⌜ InRange (modulusOf r) x ⌝ }
     requires right { ⌜ InRange (modulusOf r) y ⌝ }
-    ensures { λ z. ⌜ z ≡ summed (modulusOf r) x y ⌝ }
+    ensures { λ z. ⌜ z ≡ addedTo (modulusOf r) x y ⌝ }
 {
     let s0 = r.add(x.s0, y.s0);
     let s1 = r.add(x.s1, y.s1);

@@ -8,10 +8,11 @@ use Rattle.gate.specs.Places.{Pair, Place, next, p0, p1, p2, pair, parts, shari
 use Rattle.gate.specs.declared.sharing.Sharing.{Sharing}
 use Rattle.gate.proofs.PlaceLaw.{parts-sharing, tabled-at, tabled-is}
 use Rattle.circuit.specs.Circuits.{Circuit, channelled, ends, gatesOf, result, starts}
+use Rattle.circuit.specs.Sharings.{zeros}
 use Rattle.view.specs.Views.{Held, heldStates, ownEnds, ownSent}
 use Rattle.view.proofs.Theorems.{ends-local, sent-local}
 use Rattle.machine.specs.Checks.{Tapes}
-use Rattle.machine.specs.Registers.{Kind, Public, bits, empty, kindOf, none, number, publicOf, registerAt, registerOf, sharesOf, slot, withRegister}
+use Rattle.machine.specs.Registers.{Kind, Public, bits, empty, kindOf, number, publicOf, registerAt, registerOf, sharesOf, slot, withRegister}
 use Rattle.machine.specs.Step.{computed, dealt, dealtShares, moved, opened, written}
 use Rattle.machine.specs.Work.{adjusts, computes, deals, numberKind, opens}
 use Rattle.machine.specs.declared.registers.Machine.{Machine}
@@ -26,20 +27,20 @@ map-set f [] k a = refl
 map-set f (x ∷ l) zero a = refl
 map-set f (x ∷ l) (suc k) a = ap (λ t. f x ∷ t) (map-set f l k a)
 
-none-at : (i : Place) → parts none i ≡ 0
-none-at p0 = refl
-none-at p1 = refl
-none-at p2 = refl
+zeros-at : (i : Place) → parts zeros i ≡ 0
+zeros-at p0 = refl
+zeros-at p1 = refl
+zeros-at p2 = refl
 
 -- a register's sub-share at a place stands in that place's column
 pub column-at : (m : Machine) (k : ℕ) (i : Place) → getD (column m i) k 0 ≡ parts (sharesOf (registerAt m k)) i
 unfolding registerAt
 column-at m k i =
     let f : Slot → ℕ = λ s. parts (sharesOf (s .reg)) i in
-    ap (λ (n : ℕ). getD (map f (m .slots)) k n) (sym (none-at i)) ∙ List·getD-map f (m .slots) k (slot Empty)
+    ap (λ (n : ℕ). getD (map f (m .slots)) k n) (sym (zeros-at i)) ∙ List·getD-map f (m .slots) k (slot Empty)
 
 kept-is : (kind : Kind) (x : Sharing) (i : Place) → parts (sharesOf (registerOf kind x)) i ≡ keptAs kind (parts x i)
-kept-is empty x i = none-at i
+kept-is empty x i = zeros-at i
 kept-is (number r) x i = refl
 kept-is (bits l) x i = refl
 

@@ -9,7 +9,7 @@ use Rattle.attempt.proofs.attempts.attempt.Tie as tie
 seat : tie.Need-stored-requires
 seat c κs =
     let start = c .before .before .before .before .before .before .before .before .before in
-    (ready-local (start .args .m) (start .args .d) (c .before .t2 .given .1) (start .pre), omega arith)
+    (ready-local (start .args .m) (start .args .d) (c .before .t2 .given .1) (start .pre), (omega arith, omega arith))
 
 seat-gates : tie.Need-perform-requires
 seat-gates c κs =

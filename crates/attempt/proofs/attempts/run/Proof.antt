@@ -47,7 +47,7 @@ counted c = omega (arith, entry (c .before .before .before .before .before .befo
 seated : tie.Need-stored-requires
 seated c κs =
     let start = entry (c .before .before .before .before .before .before .before .before .before .before .before .before .before) in
-    (start .pre .0, start .pre .1 .1 .0 .few)
+    (start .pre .0, (start .pre .1 .1 .0 .few, omega arith))
 
 pub run-spec : {M : Type 1} → statement M
 run-spec =

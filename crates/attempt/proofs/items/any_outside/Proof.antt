@@ -1,7 +1,7 @@
 use mathlib.Core.Bool.{_||_}
 use mathlib.Core.Path.{ap₂}
 use borrow.Author.Needs.{needs}
-use Rattle.order.specs.Attempts.{anyBad}
+use Rattle.machine.specs.Checks.{anyBad}
 use Rattle.attempt.proofs.items.any_outside.Statement.{statement}
 use Rattle.attempt.proofs.items.any_outside.Tie as tie
 

@@ -1,4 +1,5 @@
 use mathlib.Core.Path.{_≡_, ap, sym, _∙_}
+use native.Mathlib.Omega.{arith}
 use borrow.Author.Needs.{needs}
 use lib.ListN.{length}
 use Rattle.machine.specs.Checks.{firstMet}
@@ -21,11 +22,13 @@ ranges c κs =
     let a = found .before .before .before .args in
     deal-in (a .m) (a .d) (a .e) (a .v) (length (a .dealer .now)) (found .before .item .result) (found .item2 .result) (fine c)
 
-seat : tie.Need-dealt-requires
+seat : tie.Need-stored-requires
 seat c κs =
     let found = c .before .before .before .before in
-    let a = found .before .before .before .args in
-    deal-seated (a .m) (a .d) (a .e) (a .v) (length (a .dealer .now)) (found .before .item .result) (found .item2 .result) (fine (c .before))
+    let a = found .before .before .before .args in (
+      deal-seated (a .m) (a .d) (a .e) (a .v) (length (a .dealer .now)) (found .before .item .result) (found .item2 .result) (fine (c .before)),
+      (omega arith, omega arith),
+    )
 
 stopped : tie.Need-returns
 stopped c = λ M channels.
@@ -40,7 +43,7 @@ done c = λ M channels.
     let found = told .before .before .before in
     let a = found .before .before .before .args in
     deal-done (a .m) (a .d) (a .e) (a .v) (a .dealer .now) (found .before .item .ensures) (found .item2 .ensures) M channels
-    (fine told) (c .dealt .ensures channels) (c .before .dealt-register .ensures)
+    (fine told) (c .stored .ensures channels) (c .before .dealt-register .ensures)
 
 pub deal-spec : {M : Type 1} → statement M
 deal-spec =

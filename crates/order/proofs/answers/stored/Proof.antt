@@ -1,4 +1,3 @@
-use native.Mathlib.Omega.{arith}
 use borrow.Author.Needs.{needs}
 use Rattle.order.proofs.answers.stored.Statement.{statement}
 use Rattle.order.proofs.answers.stored.Tie as tie
