@@ -9,6 +9,13 @@ use exchange::open;
 use machine::Machine;
 use machine::Order;
 use order::Outcome;
+use order::add;
+use order::compose;
+use order::convert;
+use order::decompose;
+use order::multiply;
+use order::scale;
+use order::shift;
 
 // 01: every order gets an answer on every record, tape and channel; a refusal changes nothing.
 pub fn step(
@@ -26,34 +33,15 @@ pub fn step(
 {
     match o {
         Order::Deal { d, e, v } => deal(m, d, e, v, dealer),
-        Order::Add { d, x, y } => {
-            let t = order::add(m, d, x, y);
-            attempt(m, d, t, m0, m1, m2, c0, c1, c2)
-        }
-        Order::Scale { d, x, c } => {
-            let t = order::scale(m, d, x, c);
-            attempt(m, d, t, m0, m1, m2, c0, c1, c2)
-        }
-        Order::Multiply { d, x, y } => {
-            let t = order::multiply(m, d, x, y);
-            attempt(m, d, t, m0, m1, m2, c0, c1, c2)
-        }
+        Order::Add { d, x, y } => attempt(m, d, add(m, d, x, y), m0, m1, m2, c0, c1, c2),
+        Order::Scale { d, x, c } => attempt(m, d, scale(m, d, x, c), m0, m1, m2, c0, c1, c2),
+        Order::Multiply { d, x, y } => attempt(m, d, multiply(m, d, x, y), m0, m1, m2, c0, c1, c2),
         Order::Decompose { d, x, l } => {
-            let t = order::decompose(m, d, x, l);
-            attempt(m, d, t, m0, m1, m2, c0, c1, c2)
+            attempt(m, d, decompose(m, d, x, l), m0, m1, m2, c0, c1, c2)
         }
-        Order::Convert { d, x, f } => {
-            let t = order::convert(m, d, x, f);
-            attempt(m, d, t, m0, m1, m2, c0, c1, c2)
-        }
-        Order::Shift { d, x, s } => {
-            let t = order::shift(m, d, x, s);
-            attempt(m, d, t, m0, m1, m2, c0, c1, c2)
-        }
-        Order::Compose { d, x, f } => {
-            let t = order::compose(m, d, x, f);
-            attempt(m, d, t, m0, m1, m2, c0, c1, c2)
-        }
+        Order::Convert { d, x, f } => attempt(m, d, convert(m, d, x, f), m0, m1, m2, c0, c1, c2),
+        Order::Shift { d, x, s } => attempt(m, d, shift(m, d, x, s), m0, m1, m2, c0, c1, c2),
+        Order::Compose { d, x, f } => attempt(m, d, compose(m, d, x, f), m0, m1, m2, c0, c1, c2),
         Order::Open { x } => open(m, x, c0, c1, c2),
     }
 }
