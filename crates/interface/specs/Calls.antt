@@ -12,6 +12,10 @@ use Rattle.layout.specs.Layout.{MachineFound, found, machineOf, machineWords, n
 use Rattle.layout.specs.declared.orders.OrderRead.{OrderRead}
 use Rattle.layout.specs.declared.orders.OrderRead.the-variants.{Found, NoOrder}
 
+-- the number returned for words in no layout, past 01's refusals
+abbrev pub malformed : ℕ
+malformed = 14
+
 -- the number returned, and the words of record, answer and channels
 pub record Left : Type 0 where
   pub returned : ℕ
@@ -32,11 +36,11 @@ stepRead (Found o) (found m) T c u = leftBy (step o m T c)
 stepRead (Found o) none T c u = u
 stepRead NoOrder f T c u = u
 
--- 14 and nothing changed for words in no layout, else 01's step
+-- nothing changed for words in no layout, else 01's step
 unfoldable pub stepWords : (o m a : List ℕ) → Tapes → (Place → List ℕ) → Left
 stepWords o m a T c =
-    let malformed = left 14 m a c in
-    cond (eqb (length a) 3) (stepRead (orderOf o) (machineOf m) T c malformed) malformed
+    let unchanged = left malformed m a c in
+    cond (eqb (length a) 3) (stepRead (orderOf o) (machineOf m) T c unchanged) unchanged
 
 -- the number returned, and the words of run and answer
 pub record Tape : Type 0 where
@@ -50,6 +54,6 @@ tape n run a = record { returned = n; run = run; answer = a }
 abbrev pub tapeBy : prepared.Outcome → Tape
 tapeBy o = tape (o .refusal) (o .run) (o .refusal ∷ o .count ∷ [])
 
--- 14 and nothing changed where the answer has not two words, else 01's preparation
+-- nothing changed where the answer has not two words, else 01's preparation
 unfoldable pub prepareWords : (code : ℕ) (raw run a : List ℕ) → Tape
-prepareWords code raw run a = cond (eqb (length a) 2) (tapeBy (prepared.prepared code raw run)) (tape 14 run a)
+prepareWords code raw run a = cond (eqb (length a) 2) (tapeBy (prepared.prepared code raw run)) (tape malformed run a)

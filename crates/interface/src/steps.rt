@@ -2,6 +2,7 @@
 ghost use mathlib.Core.Path.{_≡_};
 ghost use Rattle.gate.specs.Places.{three};
 ghost use Rattle.interface.specs.Calls.{left, stepWords};
+use crate::MALFORMED;
 use layout::OrderRead;
 use layout::read_machine;
 use layout::read_order;
@@ -10,9 +11,7 @@ use layout::write_machine;
 use order::refusal;
 use step::step;
 
-const MALFORMED: u64 = 14;
-
-// 01's step; 14 where the words of order, record or answer are in no layout, and then nothing changes.
+// 01's step; MALFORMED where the words of order, record or answer are in no layout, and then nothing changes.
 #[no_mangle]
 pub extern "C" fn survey_step(
     order: &[u64],
@@ -28,9 +27,6 @@ pub extern "C" fn survey_step(
 ) -> u64
     ensures { λ r. ⌜ left r (now («record» .exit)) (now (answer .exit)) (three (now (c0 .exit)) (now (c1 .exit)) (now (c2 .exit))) ≡ stepWords (now (order .entry)) (now («record» .entry)) (now (answer .entry)) (record { masks = three (now (m0 .entry)) (now (m1 .entry)) (now (m2 .entry)); dealer = now (dealer .entry) }) (three (now (c0 .entry)) (now (c1 .entry)) (now (c2 .entry))) ⌝ }
 {
-    if record.len() != 83 {
-        return MALFORMED;
-    }
     if answer.len() != 3 {
         return MALFORMED;
     }
