@@ -2,6 +2,7 @@
 use Prim.Native.Nat.{_+_}
 use borrow.Author.Needs.{needs}
 use Rattle.gate.specs.Places.{three}
+use Rattle.order.specs.Answers.{reported}
 use Rattle.attempt.proofs.AttemptLaw.{enough, long-enough, short}
 use Rattle.attempt.proofs.attempts.perform.Statement.{statement}
 use Rattle.attempt.proofs.attempts.perform.Tie as tie
@@ -25,11 +26,14 @@ fits c κs =
 
 done : tie.Need-returns-2
 done c =
-    let told = c .before .before .before .before .before .before .before .before .before .before in
+    let called = c .before .before .before .before .before .before in
+    let told = called .before .before .before .before in
     let known = told .before .before in
     let a = known .before .before .before .before .before .before .before .before .before .args in
+    let left = called .run .last .1 .1 .1 .1 .1 .1 .1 in
     enough (a .t) (a .d) (a .m) (known .before .before .cost .ensures) (three (a .m0 .now) (a .m1 .now) (a .m2 .now)) (three (a .c0 .now) (a .c1 .now) (a .c2 .now))
-    (known .room .ensures) (told .enum-told .given .1) (c .before .before .before .before .before .before .run .ensures)
+    (known .room .ensures) {a = reported (called .run .result) (three (left .0) (left .1 .0) (left .1 .1 .0))}
+    (told .enum-told .given .1) (called .run .ensures)
 
 pub perform-spec : {M : Type 1} → statement M
 perform-spec =

@@ -3,7 +3,7 @@ use borrow.Author.Needs.{needs}
 use lib.ListN.{length}
 use Rattle.gate.specs.Places.{three}
 use Rattle.machine.specs.Checks.{firstMet}
-use Rattle.order.specs.Answers.{refusalOf}
+use Rattle.order.specs.Answers.{refusalOf, reported}
 use Rattle.exchange.specs.Exchanges.{openChecks}
 use Rattle.exchange.proofs.OpenLaw.{open-done, open-refused}
 use Rattle.exchange.proofs.openings.open.Statement.{statement}
@@ -26,7 +26,9 @@ done c =
     let called = c .before .before .before .before .before .before in
     let told = called .before .before .before .before in
     let a = told .before .before .before .before .before .before .args in
-    open-done (a .m) (a .x) (three (a .c0 .now) (a .c1 .now) (a .c2 .now)) (fine told) (called .open-run .ensures)
+    let left = called .open-run .last .1 .1 in
+    open-done (a .m) (a .x) (three (a .c0 .now) (a .c1 .now) (a .c2 .now))
+    {o = reported (called .open-run .result) (three (left .0) (left .1 .0) (left .1 .1 .0))} (fine told) (called .open-run .ensures)
 
 pub open-spec : {M : Type 1} → statement M
 open-spec =

@@ -31,8 +31,9 @@ returns c =
     let shared = called .before .before .before .before in
     let found = shared .before .before .before in
     let a = found .before .before .before .before .args in
-    opened-is (a .m) (a .x) (three (a .c0 .now) (a .c1 .now) (a .c2 .now)) (found .register .ensures) (shared .before .moved .ensures)
-    (shared .before .before .value .ensures) (shared .shares .ensures) (called .open-words .ensures)
+    let left = called .open-words .last .1 .1 in
+    opened-is (a .m) (a .x) (three (a .c0 .now) (a .c1 .now) (a .c2 .now)) {d = three (left .0) (left .1 .0) (left .1 .1 .0)}
+    (found .register .ensures) (shared .before .moved .ensures) (shared .before .before .value .ensures) (shared .shares .ensures) (called .open-words .ensures)
 
 pub open-run-spec : {M : Type 1} → statement M
 open-run-spec =
