@@ -36,7 +36,7 @@ stepRead (Found o) (found m) T c u = leftBy (step o m T c)
 stepRead (Found o) none T c u = u
 stepRead NoOrder f T c u = u
 
--- nothing changed for words in no layout, else 01's step
+-- malformed and nothing changed for words in no layout, else 01's step
 unfoldable pub stepWords : (o m a : List ℕ) → Tapes → (Place → List ℕ) → Left
 stepWords o m a T c =
     let unchanged = left malformed m a c in
@@ -54,6 +54,6 @@ tape n run a = record { returned = n; run = run; answer = a }
 abbrev pub tapeBy : prepared.Outcome → Tape
 tapeBy o = tape (o .refusal) (o .run) (o .refusal ∷ o .count ∷ [])
 
--- nothing changed where the answer has not two words, else 01's preparation
+-- malformed and nothing changed where the answer has not two words, else 01's preparation
 unfoldable pub prepareWords : (code : ℕ) (raw run a : List ℕ) → Tape
 prepareWords code raw run a = cond (eqb (length a) 2) (tapeBy (prepared.prepared code raw run)) (tape malformed run a)
