@@ -1,0 +1,6 @@
+pub mod AdvanceLaw
+pub mod ChunkLaw
+pub mod EndLaw
+pub mod FeedLaw
+pub mod ReplyLaw
+pub mod TurnLaw

@@ -1,0 +1,101 @@
+-- What a tape line leaves, where it is taken and where 512 were taken before.
+use Prim.Native.Nat.{ℕ, _+_, _-_, _≤_, _<_}
+use mathlib.Core.List.{List, [], _∷_, _++_}
+use mathlib.Core.Path.{_≡_, ap, ap₂, refl, sym, _∙_}
+use native.Mathlib.Omega.{arith}
+use native.Mathlib.Nat.{sub-zero}
+use native.Mathlib.Numerals.{add-one}
+use borrow.Author.Tests.{le-ltb, lt-ltb}
+use lib.ListN.{length, length-set, set, take}
+use lib.Seq.{length-take-le, take-suc-set}
+use borrow.Rule.Slice.PartMut.{midOf}
+use Rattle.gate.specs.Places.{Place}
+use Rattle.machine.specs.Step as defined
+use Rattle.machine.specs.Step.{step}
+use Rattle.machine.specs.declared.orders.Order.{Order}
+use Rattle.machine.specs.declared.registers.Machine.{Machine}
+use Rattle.order.specs.Answers.{refusalOf, reported, valueOf}
+use Rattle.order.specs.declared.answers.Outcome.{Outcome}
+use Rattle.line.specs.declared.commands.Command.{Command}
+use Rattle.session.specs.Kept.{DealerFits, MasksFit, stateOf}
+use Rattle.session.specs.Outputs.{State, Turned, declined, itemTaken, masksTaken, most, ordered, state, taken, tapes, turned}
+use Rattle.session.specs.declared.replies.Reply.the-variants.{Says, Silent}
+use Rattle.session.specs.declared.sessions.Session.{Session}
+
+-- one item more at the end of those taken
+added : (n : ℕ) (t : List ℕ) (i : ℕ) → length t ≡ most → n < most → take (n + 1) (set t n i) ≡ take n t ++ (i ∷ [])
+added n t i e h = rw (add-one n) (take-suc-set t n i (omega (arith, e)))
+
+-- how many were taken
+count : (n : ℕ) (t : List ℕ) → length t ≡ most → n ≤ most → length (take n t) ≡ n
+count n t e h = length-take-le n t (omega (arith, e))
+
+module _ (m : Machine) (n : ℕ) (t₀ t₁ t₂ : List ℕ) (i₀ i₁ i₂ : ℕ) (dealer : List ℕ) (c : Place → List ℕ) where
+  pub masks-full : length t₀ ≡ most → n ≤ most → most ≤ n
+      → declined (state m (tapes (take n t₀) (take n t₁) (take n t₂) dealer) c)
+      ≡ masksTaken (state m (tapes (take n t₀) (take n t₁) (take n t₂) dealer) c) i₀ i₁ i₂
+  unfolding masksTaken
+  masks-full e few full = rw (count n t₀ e few, le-ltb n most full) refl
+
+  pub masks-added : length t₀ ≡ most → length t₁ ≡ most → length t₂ ≡ most → n < most
+      → turned (state m (tapes (take (n + 1) (set t₀ n i₀)) (take (n + 1) (set t₁ n i₁)) (take (n + 1) (set t₂ n i₂)) dealer) c) Silent
+      ≡ masksTaken (state m (tapes (take n t₀) (take n t₁) (take n t₂) dealer) c) i₀ i₁ i₂
+  unfolding masksTaken
+  masks-added e₀ e₁ e₂ h =
+      rw (count n t₀ e₀ (omega arith), lt-ltb n most h, added n t₀ i₀ e₀ h, added n t₁ i₁ e₁ h, added n t₂ i₂ e₂ h) refl
+
+module _ (m : Machine) (t₀ t₁ t₂ : List ℕ) (n : ℕ) (dealer : List ℕ) (i : ℕ) (c : Place → List ℕ) where
+  pub item-full : length dealer ≡ most → n ≤ most → most ≤ n
+      → declined (state m (tapes t₀ t₁ t₂ (take n dealer)) c) ≡ itemTaken (state m (tapes t₀ t₁ t₂ (take n dealer)) c) i
+  unfolding itemTaken
+  item-full e few full = rw (count n dealer e few, le-ltb n most full) refl
+
+  pub item-added : length dealer ≡ most → n < most
+      → turned (state m (tapes t₀ t₁ t₂ (take (n + 1) (set dealer n i))) c) Silent
+      ≡ itemTaken (state m (tapes t₀ t₁ t₂ (take n dealer)) c) i
+  unfolding itemTaken
+  item-added e h = rw (count n dealer e (omega arith), lt-ltb n most h, added n dealer i e h) refl
+
+-- a part that starts at 0 is what was taken
+part : (n : ℕ) (t : List ℕ) → midOf 0 (n - 0) t ≡ take n t
+part n t = ap (λ (k : ℕ). take k t) (sub-zero n)
+
+-- an order's outcome, with the numbers of its answer
+module _ (s : Session) (o : Order) (t₀ t₁ t₂ dealer : List ℕ) (c : Place → List ℕ) where
+  pub order-taken : (left : Outcome) (d : Place → List ℕ) {r v : ℕ}
+      → reported left d
+      ≡ step o (s .machine) (tapes (midOf 0 (s .masks - 0) t₀) (midOf 0 (s .masks - 0) t₁) (midOf 0 (s .masks - 0) t₂) (midOf 0 (s .dealer - 0) dealer)) c
+      → r ≡ refusalOf (left .answer) → v ≡ valueOf (left .answer)
+      → turned (state (left .machine) (stateOf s t₀ t₁ t₂ dealer c .tapes) d) (Says r v) ≡ ordered (stateOf s t₀ t₁ t₂ dealer c) o
+  unfolding ordered
+  order-taken left d e refusal value =
+      let T = stateOf s t₀ t₁ t₂ dealer c .tapes in
+      let is : reported left d ≡ step o (s .machine) T c
+      = e ∙ rw (part (s .masks) t₀, part (s .masks) t₁, part (s .masks) t₂, part (s .dealer) dealer) refl in
+      ap₂ (λ (r v : ℕ). turned (state (left .machine) T d) (Says r v)) refusal value
+      ∙ ap (λ (x : defined.Outcome). turned (state (x .machine) T (x .channels)) (Says (x .refusal) (x .value))) is
+
+-- the runs have room as before
+pub same-masks : {s u : Session} {t₀ t₁ t₂ : List ℕ} → u .masks ≡ s .masks → MasksFit s t₀ t₁ t₂ → MasksFit u t₀ t₁ t₂
+same-masks e fit = record { zero = fit .zero; one = fit .one; two = fit .two; few = omega (arith, e, fit .few) }
+
+pub same-dealer : {s u : Session} {dealer : List ℕ} → u .dealer ≡ s .dealer → DealerFits s dealer → DealerFits u dealer
+same-dealer e fit = record { run = fit .run; few = omega (arith, e, fit .few) }
+
+pub more-masks : (s : Session) {u : Session} (t₀ t₁ t₂ : List ℕ) (i₀ i₁ i₂ : ℕ) → u .masks ≡ s .masks + 1 → s .masks < most
+    → MasksFit s t₀ t₁ t₂ → MasksFit u (set t₀ (s .masks) i₀) (set t₁ (s .masks) i₁) (set t₂ (s .masks) i₂)
+more-masks s t₀ t₁ t₂ i₀ i₁ i₂ e h fit =
+    record {
+      zero = length-set t₀ (s .masks) i₀ ∙ fit .zero;
+      one = length-set t₁ (s .masks) i₁ ∙ fit .one;
+      two = length-set t₂ (s .masks) i₂ ∙ fit .two;
+      few = omega (arith, e);
+    }
+
+pub more-dealer : (s : Session) {u : Session} (dealer : List ℕ) (i : ℕ) → u .dealer ≡ s .dealer + 1 → s .dealer < most
+    → DealerFits s dealer → DealerFits u (set dealer (s .dealer) i)
+more-dealer s dealer i e h fit = record { run = length-set dealer (s .dealer) i ∙ fit .run; few = omega (arith, e) }
+
+-- a line by what it says
+pub by-command : {x : Turned} (s : State) {k l : Command} → k ≡ l → x ≡ taken s l → x ≡ taken s k
+by-command s e is = is ∙ ap (taken s) (sym e)

@@ -1,0 +1,102 @@
+-- A chunk, part by part.
+use Prim.Native.Nat.{_-_, _≤_, _<_}
+use mathlib.Core.Path.{_≡_, refl}
+use native.Mathlib.Omega.{arith}
+use lib.ListN.{drop-of-length-le, length}
+use Rattle.gate.specs.Places.{three}
+use Rattle.session.specs.Kept.{standingOf}
+use Rattle.session.proofs.AdvanceLaw.{advanced-all, advanced-none, advanced-on}
+use Rattle.session.proofs.FeedLaw.{Feeding}
+use Rattle.session.proofs.lines.feed.Statement.{statement}
+use Rattle.session.proofs.lines.feed.Tie as tie
+
+abbrev Inv-loop : tie.InvT-loop
+Inv-loop buf m0₀ m1₀ m2₀ dealer₀ c0₀ c1₀ c2₀ out₀ q₀ i₀ at₀ m0 m1 m2 dealer c0 c1 c2 out q i at =
+    Feeding buf (standingOf q₀ m0₀ m1₀ m2₀ dealer₀ (three c0₀ c1₀ c2₀)) out₀ m0 m1 m2 dealer c0 c1 c2 out q i at
+    × ((length c0 ≡ length c0₀) × ((length c1 ≡ length c1₀) × (length c2 ≡ length c2₀)))
+
+abbrev μ-loop : tie.MeasureT-loop
+μ-loop buf m0₀ m1₀ m2₀ dealer₀ c0₀ c1₀ c2₀ out₀ q₀ i₀ at₀ m0 m1 m2 dealer c0 c1 c2 out q i at = length buf - i
+
+loop-holds : tie.Need-loop-holds Inv-loop μ-loop
+loop-holds c =
+    let a = c .before .before .before .before .before .before .before .before .before in (
+      record {
+        done = advanced-none _ _ 0 _;
+        within = omega arith;
+        short = omega arith;
+        long = refl;
+        masks = a .pre .0;
+        items = a .pre .1 .0;
+      },
+      (refl, (refl, refl)),
+    )
+
+abbrev entered : tie.After-take-one-arg8 Inv-loop μ-loop → tie.In-loop Inv-loop μ-loop
+entered c = c .before .before .before .before .before .before .before .before
+
+abbrev called : tie.After-q Inv-loop μ-loop → tie.After-take-one Inv-loop μ-loop
+called c = c .before .before .before .before .before .before .before .before .before .before .before .before .before .before .before .before .before
+
+abbrev start : tie.At-loop Inv-loop μ-loop → tie.Start Inv-loop μ-loop
+start c = c .before .before .before .before .before .before .before .before .before .before
+
+inside : (c : tie.In-loop Inv-loop μ-loop) → c .before .loop .i < length (start (c .before) .args .buf .now)
+inside c = omega arith
+
+take-one-requires : tie.Need-take-one-requires Inv-loop μ-loop
+take-one-requires c κs =
+    let turn = entered c in
+    let inv = turn .before .loop .inv .0 in
+    (inv .masks, (inv .items, (inside turn, omega (arith, inside turn, inv .short, inv .long, start (turn .before) .pre .1 .1))))
+
+loop-less : tie.Need-loop-less Inv-loop μ-loop
+loop-less c =
+    let told = called c .take-one .ensures in
+    omega (arith, told .1 .0, told .1 .1 .0)
+
+loop-again : tie.Need-loop-again Inv-loop μ-loop
+loop-again c =
+    let turn = entered (called c .before) in
+    let inv = turn .before .loop .inv in
+    let told = called c .take-one .ensures in
+    let room = start (turn .before) .pre .1 .1 in (
+      record {
+        done = advanced-on (inv .0 .done) (told .0) (omega (arith, inv .0 .short, inv .0 .within, room));
+        within = told .1 .1 .0;
+        short = omega (arith, told .1 .1 .1 .0, inv .0 .short);
+        long = omega (arith, inv .0 .long);
+        masks = told .1 .1 .1 .1 .0;
+        items = told .1 .1 .1 .1 .1;
+      },
+      (omega (arith, inv .1 .0), (omega (arith, inv .1 .1 .0), omega (arith, inv .1 .1 .1))),
+    )
+
+over : (c : tie.After-loop Inv-loop μ-loop) → length (start (c .before) .args .buf .now) ≤ c .before .loop .i
+over c = omega arith
+
+returns : tie.Need-returns Inv-loop μ-loop
+returns c =
+    let inv = c .before .loop .inv .0 in
+    let all = advanced-all (inv .done) (drop-of-length-le _ (over c)) in
+    (all .0, (all .1, (omega (arith, inv .short, inv .within, inv .long, start (c .before) .pre .1 .1), (inv .masks, inv .items))))
+
+pub feed-spec : {M : Type 1} → statement M
+feed-spec =
+    tie.close
+    (tie.spec
+    Inv-loop
+    μ-loop
+    loop-holds
+    take-one-requires
+    loop-less
+    loop-again
+    (λ c. omega arith)
+    (λ c. omega arith)
+    (λ c. omega arith)
+    (λ c. omega arith)
+    (λ c. omega arith)
+    (λ c. omega arith)
+    (λ c. omega arith)
+    (λ c. omega arith)
+    returns)

@@ -1,0 +1,37 @@
+-- The machine's step on the tape lines taken.
+use mathlib.Core.Path.{refl}
+use borrow.Author.Needs.{needs}
+use Rattle.gate.specs.Places.{three}
+use Rattle.session.proofs.TurnLaw.{order-taken}
+use Rattle.session.proofs.turns.give_order.Statement.{statement}
+use Rattle.session.proofs.turns.give_order.Tie as tie
+
+done : tie.Need-returns
+done c =
+    let stepped = c .before .before .before .before .before .before .before .before .before in
+    let a = stepped .before .before .before .before .before .before .before .before .before .before .before .before .before .before .before in
+    (order-taken (a .args .s) (a .args .o) (a .args .m0 .now) (a .args .m1 .now) (a .args .m2 .now) (a .args .dealer .now) (three (a .args .c0 .now) (a .args .c1 .now) (a .args .c2 .now)) (stepped .step .result) _ (stepped .step .ensures) (c .before .refusal .ensures) (c .value .ensures), (refl, refl))
+
+pub give-order-spec : {M : Type 1} → statement M
+give-order-spec =
+    tie.close
+    (tie.spec
+    (λ c. search needs)
+    (λ c. search needs)
+    (λ c. search needs)
+    (λ c. search needs)
+    (λ c. search needs)
+    (λ c. search needs)
+    (λ c. search needs)
+    (λ c. search needs)
+    (λ c. search needs)
+    (λ c. search needs)
+    (λ c. search needs)
+    (λ c. search needs)
+    (λ c κs. search needs)
+    (λ c κs. search needs)
+    (λ c κs. search needs)
+    (λ c. search needs)
+    (λ c. search needs)
+    (λ c. search needs)
+    done)

@@ -1,0 +1,181 @@
+// The lines of a chunk of input, one after the other.
+ghost use mathlib.Core.Path.{_≡_};
+ghost use Prim.Native.Nat.{_+_, _*_, _≤_, _<_};
+ghost use lib.ListN.{drop, length};
+ghost use Rattle.gate.specs.Places.{three};
+ghost use Rattle.line.specs.Printed.{Wrote};
+ghost use Rattle.session.specs.Kept.{DealerFits, MasksFit, standingOf};
+ghost use Rattle.session.specs.Standings.{Advanced, afterBytes, afterEnd, afterLast, printedAt, printedBy, printedLast};
+use crate::replies::print_reply;
+use crate::sessions::Progress;
+use crate::turns::take_command;
+use line::take_line;
+
+// 01: "Reading stops after line 1,000,000".
+const LAST_LINE: u64 = 1_000_000;
+
+// Where a job stands, and the place after what was printed.
+pub struct Printed {
+    pub progress: Progress,
+    pub at: usize,
+}
+
+// Where a job stands, the byte that comes next, and the place after what was printed.
+pub struct Advance {
+    pub progress: Progress,
+    pub next: usize,
+    pub at: usize,
+}
+
+// The end of a line: does what it says, and prints the reply.
+fn end_line(
+    p: Progress,
+    m0: &mut [u64],
+    m1: &mut [u64],
+    m2: &mut [u64],
+    dealer: &mut [u64],
+    c0: &mut [u64],
+    c1: &mut [u64],
+    c2: &mut [u64],
+    out: &mut [u8],
+    at: usize,
+) -> Printed
+    requires masks { ⌜ MasksFit (p .session) (now m0) (now m1) (now m2) ⌝ }
+    requires dealer { ⌜ DealerFits (p .session) (now dealer) ⌝ }
+    requires room { ⌜ at + 105 ≤ length (now out) ⌝ }
+    ensures is { λ r. ⌜ standingOf (r .progress) (now (m0 .exit)) (now (m1 .exit)) (now (m2 .exit)) (now (dealer .exit)) (three (now (c0 .exit)) (now (c1 .exit)) (now (c2 .exit))) ≡ afterEnd (standingOf p (now (m0 .entry)) (now (m1 .entry)) (now (m2 .entry)) (now (dealer .entry)) (three (now (c0 .entry)) (now (c1 .entry)) (now (c2 .entry)))) ⌝ }
+    ensures writes { λ r. ⌜ Wrote at (printedAt (standingOf p (now (m0 .entry)) (now (m1 .entry)) (now (m2 .entry)) (now (dealer .entry)) (three (now (c0 .entry)) (now (c1 .entry)) (now (c2 .entry))))) (now (out .entry)) (now (out .exit)) (r .at) ⌝ }
+    ensures short { λ r. ⌜ r .at ≤ at + 105 ⌝ }
+    ensures masks { λ r. ⌜ MasksFit (r .progress .session) (now (m0 .exit)) (now (m1 .exit)) (now (m2 .exit)) ⌝ }
+    ensures dealer { λ r. ⌜ DealerFits (r .progress .session) (now (dealer .exit)) ⌝ }
+{
+    let session = p.session;
+    if LAST_LINE <= p.lines {
+        return Printed {
+            progress: Progress::at_line(session, p.lines),
+            at,
+        };
+    }
+    let reading = p.reading;
+    let line = p.lines + 1;
+    let turn = take_command(session, reading.command(), m0, m1, m2, dealer, c0, c1, c2);
+    let left = turn.session;
+    let reply = turn.reply;
+    let next = print_reply(out, at, line, left.machine, reply);
+    Printed {
+        progress: Progress::at_line(left, line),
+        at: next,
+    }
+}
+
+// One line of the chunk from byte i on, or the rest of the chunk where no line ends in it.
+fn take_one(
+    p: Progress,
+    buf: &[u8],
+    i: usize,
+    m0: &mut [u64],
+    m1: &mut [u64],
+    m2: &mut [u64],
+    dealer: &mut [u64],
+    c0: &mut [u64],
+    c1: &mut [u64],
+    c2: &mut [u64],
+    out: &mut [u8],
+    at: usize,
+) -> Advance
+    requires masks { ⌜ MasksFit (p .session) (now m0) (now m1) (now m2) ⌝ }
+    requires dealer { ⌜ DealerFits (p .session) (now dealer) ⌝ }
+    requires inside { ⌜ i < length (now buf) ⌝ }
+    requires room { ⌜ at + 105 ≤ length (now out) ⌝ }
+    ensures is { λ r. ⌜ Advanced (standingOf p (now (m0 .entry)) (now (m1 .entry)) (now (m2 .entry)) (now (dealer .entry)) (three (now (c0 .entry)) (now (c1 .entry)) (now (c2 .entry)))) (drop i (now (buf .entry))) (standingOf (r .progress) (now (m0 .exit)) (now (m1 .exit)) (now (m2 .exit)) (now (dealer .exit)) (three (now (c0 .exit)) (now (c1 .exit)) (now (c2 .exit)))) (drop (r .next) (now (buf .entry))) at (now (out .entry)) (now (out .exit)) (r .at) ⌝ }
+    ensures further { λ r. ⌜ i < r .next ⌝ }
+    ensures within { λ r. ⌜ r .next ≤ length (now (buf .entry)) ⌝ }
+    ensures short { λ r. ⌜ r .at + 105 * i ≤ at + 105 * r .next ⌝ }
+    ensures masks { λ r. ⌜ MasksFit (r .progress .session) (now (m0 .exit)) (now (m1 .exit)) (now (m2 .exit)) ⌝ }
+    ensures dealer { λ r. ⌜ DealerFits (r .progress .session) (now (dealer .exit)) ⌝ }
+{
+    let reading = p.reading;
+    let session = p.session;
+    let taken = take_line(buf, i, reading);
+    let stop = taken.at;
+    let more = taken.reading;
+    let q = Progress {
+        session,
+        lines: p.lines,
+        reading: more,
+    };
+    if buf.len() <= stop {
+        return Advance {
+            progress: q,
+            next: stop,
+            at,
+        };
+    }
+    let printed = end_line(q, m0, m1, m2, dealer, c0, c1, c2, out, at);
+    let left = printed.progress;
+    Advance {
+        progress: left,
+        next: stop + 1,
+        at: printed.at,
+    }
+}
+
+// A chunk of input: what it prints stands at the start of `out`.
+pub fn feed(
+    p: Progress,
+    buf: &[u8],
+    m0: &mut [u64],
+    m1: &mut [u64],
+    m2: &mut [u64],
+    dealer: &mut [u64],
+    c0: &mut [u64],
+    c1: &mut [u64],
+    c2: &mut [u64],
+    out: &mut [u8],
+) -> Printed
+    requires masks { ⌜ MasksFit (p .session) (now m0) (now m1) (now m2) ⌝ }
+    requires dealer { ⌜ DealerFits (p .session) (now dealer) ⌝ }
+    requires room { ⌜ 105 * length (now buf) ≤ length (now out) ⌝ }
+    ensures is { λ r. ⌜ standingOf (r .progress) (now (m0 .exit)) (now (m1 .exit)) (now (m2 .exit)) (now (dealer .exit)) (three (now (c0 .exit)) (now (c1 .exit)) (now (c2 .exit))) ≡ afterBytes (standingOf p (now (m0 .entry)) (now (m1 .entry)) (now (m2 .entry)) (now (dealer .entry)) (three (now (c0 .entry)) (now (c1 .entry)) (now (c2 .entry)))) (now (buf .entry)) ⌝ }
+    ensures writes { λ r. ⌜ Wrote 0 (printedBy (standingOf p (now (m0 .entry)) (now (m1 .entry)) (now (m2 .entry)) (now (dealer .entry)) (three (now (c0 .entry)) (now (c1 .entry)) (now (c2 .entry)))) (now (buf .entry))) (now (out .entry)) (now (out .exit)) (r .at) ⌝ }
+    ensures within { λ r. ⌜ r .at ≤ length (now (out .exit)) ⌝ }
+    ensures masks { λ r. ⌜ MasksFit (r .progress .session) (now (m0 .exit)) (now (m1 .exit)) (now (m2 .exit)) ⌝ }
+    ensures dealer { λ r. ⌜ DealerFits (r .progress .session) (now (dealer .exit)) ⌝ }
+{
+    let mut q = p;
+    let mut i = 0;
+    let mut at = 0;
+    while i < buf.len() {
+        let a = take_one(q, buf, i, m0, m1, m2, dealer, c0, c1, c2, out, at);
+        q = a.progress;
+        i = a.next;
+        at = a.at;
+    }
+    Printed { progress: q, at }
+}
+
+// The end of input: a line of which a byte was seen ends here.
+pub fn finish(
+    p: Progress,
+    m0: &mut [u64],
+    m1: &mut [u64],
+    m2: &mut [u64],
+    dealer: &mut [u64],
+    c0: &mut [u64],
+    c1: &mut [u64],
+    c2: &mut [u64],
+    out: &mut [u8],
+) -> Printed
+    requires masks { ⌜ MasksFit (p .session) (now m0) (now m1) (now m2) ⌝ }
+    requires dealer { ⌜ DealerFits (p .session) (now dealer) ⌝ }
+    requires room { ⌜ 105 ≤ length (now out) ⌝ }
+    ensures is { λ r. ⌜ standingOf (r .progress) (now (m0 .exit)) (now (m1 .exit)) (now (m2 .exit)) (now (dealer .exit)) (three (now (c0 .exit)) (now (c1 .exit)) (now (c2 .exit))) ≡ afterLast (standingOf p (now (m0 .entry)) (now (m1 .entry)) (now (m2 .entry)) (now (dealer .entry)) (three (now (c0 .entry)) (now (c1 .entry)) (now (c2 .entry)))) ⌝ }
+    ensures writes { λ r. ⌜ Wrote 0 (printedLast (standingOf p (now (m0 .entry)) (now (m1 .entry)) (now (m2 .entry)) (now (dealer .entry)) (three (now (c0 .entry)) (now (c1 .entry)) (now (c2 .entry))))) (now (out .entry)) (now (out .exit)) (r .at) ⌝ }
+    ensures within { λ r. ⌜ r .at ≤ length (now (out .exit)) ⌝ }
+{
+    let reading = p.reading;
+    if reading.seen {
+        return end_line(p, m0, m1, m2, dealer, c0, c1, c2, out, 0);
+    }
+    Printed { progress: p, at: 0 }
+}
