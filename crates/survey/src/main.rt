@@ -1,0 +1,154 @@
+// The job program: lines on standard input, a printed line for each order on standard output.
+ghost use Prim.Native.Nat.{_*_, _≤_, _<_};
+ghost use lib.ListN.{length};
+ghost use Rattle.session.specs.Kept.{DealerFits, MasksFit, noLines};
+use libc::STDIN_FILENO;
+use libc::STDOUT_FILENO;
+use session::Progress;
+use session::feed;
+use session::finish;
+
+// Where the job stands, and whether input may follow.
+struct Chunk {
+    progress: Progress,
+    more: bool,
+}
+
+// Reads once, and writes what the lines of it print. Input that ends or cannot be read, output that
+// cannot be written and line 1,000,000 are each the end.
+fn take_chunk(
+    p: Progress,
+    buf: &mut [u8],
+    m0: &mut [u64],
+    m1: &mut [u64],
+    m2: &mut [u64],
+    dealer: &mut [u64],
+    c0: &mut [u64],
+    c1: &mut [u64],
+    c2: &mut [u64],
+    out: &mut [u8],
+) -> Chunk
+    requires masks { ⌜ MasksFit (p .session) (now m0) (now m1) (now m2) ⌝ }
+    requires dealer { ⌜ DealerFits (p .session) (now dealer) ⌝ }
+    requires room { ⌜ 105 * length (now buf) ≤ length (now out) ⌝ }
+    ensures masks { λ r. ⌜ MasksFit (r .progress .session) (now (m0 .exit)) (now (m1 .exit)) (now (m2 .exit)) ⌝ }
+    ensures dealer { λ r. ⌜ DealerFits (r .progress .session) (now (dealer .exit)) ⌝ }
+{
+    let got = libc::read(STDIN_FILENO, buf);
+    let n = io::count(got, buf);
+    if n == 0 {
+        return Chunk {
+            progress: p,
+            more: false,
+        };
+    }
+    let printed = feed(p, &buf[0..n], m0, m1, m2, dealer, c0, c1, c2, out);
+    let progress = printed.progress;
+    let at = printed.at;
+    let is_written = io::write_all(STDOUT_FILENO, &out[0..at]);
+    Chunk {
+        progress,
+        more: is_written & (progress.lines < 1_000_000),
+    }
+}
+
+// The turns that are left: none where no input may follow.
+fn fewer(turns: u64, more: bool) -> u64
+    requires { ⌜ 0 < turns ⌝ }
+    ensures { λ r. ⌜ r < turns ⌝ }
+{
+    if more { turns - 1 } else { 0 }
+}
+
+// All chunks. A proved loop has to end, so it counts its turns down, from a number that no run uses up.
+fn take_input(
+    buf: &mut [u8],
+    m0: &mut [u64],
+    m1: &mut [u64],
+    m2: &mut [u64],
+    dealer: &mut [u64],
+    c0: &mut [u64],
+    c1: &mut [u64],
+    c2: &mut [u64],
+    out: &mut [u8],
+) -> Progress
+    requires masks { ⌜ MasksFit noLines (now m0) (now m1) (now m2) ⌝ }
+    requires dealer { ⌜ DealerFits noLines (now dealer) ⌝ }
+    requires room { ⌜ 105 * length (now buf) ≤ length (now out) ⌝ }
+    ensures masks { λ r. ⌜ MasksFit (r .session) (now (m0 .exit)) (now (m1 .exit)) (now (m2 .exit)) ⌝ }
+    ensures dealer { λ r. ⌜ DealerFits (r .session) (now (dealer .exit)) ⌝ }
+{
+    let mut p = Progress::start();
+    let mut turns = u64::MAX;
+    while 0 < turns {
+        let chunk = take_chunk(p, buf, m0, m1, m2, dealer, c0, c1, c2, out);
+        p = chunk.progress;
+        turns = fewer(turns, chunk.more);
+    }
+    p
+}
+
+// The end of input, and what its last line prints.
+fn end_input(
+    p: Progress,
+    m0: &mut [u64],
+    m1: &mut [u64],
+    m2: &mut [u64],
+    dealer: &mut [u64],
+    c0: &mut [u64],
+    c1: &mut [u64],
+    c2: &mut [u64],
+    out: &mut [u8],
+)
+    requires masks { ⌜ MasksFit (p .session) (now m0) (now m1) (now m2) ⌝ }
+    requires dealer { ⌜ DealerFits (p .session) (now dealer) ⌝ }
+    requires room { ⌜ 105 ≤ length (now out) ⌝ }
+{
+    let last = finish(p, m0, m1, m2, dealer, c0, c1, c2, out);
+    let at = last.at;
+    io::write_all(STDOUT_FILENO, &out[0..at]);
+}
+
+// A job from its first byte to its last line.
+fn run(
+    buf: &mut [u8],
+    m0: &mut [u64],
+    m1: &mut [u64],
+    m2: &mut [u64],
+    dealer: &mut [u64],
+    c0: &mut [u64],
+    c1: &mut [u64],
+    c2: &mut [u64],
+    out: &mut [u8],
+)
+    requires masks { ⌜ MasksFit noLines (now m0) (now m1) (now m2) ⌝ }
+    requires dealer { ⌜ DealerFits noLines (now dealer) ⌝ }
+    requires some { ⌜ 0 < length (now buf) ⌝ }
+    requires room { ⌜ 105 * length (now buf) ≤ length (now out) ⌝ }
+{
+    let p = take_input(buf, m0, m1, m2, dealer, c0, c1, c2, out);
+    end_input(p, m0, m1, m2, dealer, c0, c1, c2, out);
+}
+
+fn main() {
+    let mut buf = [0u8; 2496];
+    let mut m0 = [0u64; 512];
+    let mut m1 = [0u64; 512];
+    let mut m2 = [0u64; 512];
+    let mut dealer = [0u64; 512];
+    let mut c0 = [0u64; 1024];
+    let mut c1 = [0u64; 1024];
+    let mut c2 = [0u64; 1024];
+    let mut out = [0u8; 262080];
+    run(
+        &mut buf,
+        &mut m0,
+        &mut m1,
+        &mut m2,
+        &mut dealer,
+        &mut c0,
+        &mut c1,
+        &mut c2,
+        &mut out,
+    );
+}
