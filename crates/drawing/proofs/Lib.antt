@@ -1,0 +1,4 @@
+pub mod AskLaw
+pub mod RawLaw
+pub mod LinesLaw
+pub mod DrawLaw

@@ -1,0 +1,4 @@
+pub mod Asks
+pub mod Raws
+pub mod Lines
+pub mod Draws
