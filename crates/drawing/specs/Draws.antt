@@ -22,8 +22,11 @@ unfoldable pub drawnBy : Kind → ℕ → Outcome → Output
 drawnBy kind n o = record { refusal = o .refusal; bytes = cond (eqb (o .refusal) 0) (linesOf kind n (o .run)) [] }
 
 -- n lines take one run of items, prepared from the raw words in turn
+abbrev pub itemsOf : (code n : ℕ) → Kind → List ℕ → Outcome
+itemsOf code n kind raw = prepared code (rawWords (length raw / 8) raw) (replicate (perLine kind * n) 0)
+
 unfoldable pub drawn : (code n : ℕ) → Kind → List ℕ → Output
-drawn code n kind raw = drawnBy kind n (prepared code (rawWords (length raw / 8) raw) (replicate (perLine kind * n) 0))
+drawn code n kind raw = drawnBy kind n (itemsOf code n kind raw)
 
 -- the answer, and the bytes written from the start of a run, where all else stays
 pub record Drew (o : Output) (entry exit : List ℕ) (r : Drawn) : Type 0 where
