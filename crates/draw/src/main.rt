@@ -46,6 +46,7 @@ fn print_lines(code: u64, count: u64, kind: Kind)
     let got = io::read_full(STDIN_FILENO, &mut raw);
     let drawn = drawing::draw(code, count as usize, kind, &raw[..got], &mut out);
     let length = drawn.length;
+    // The ring code is one that there is, so a refusal says that the raw words ran out.
     if drawn.refusal != 0 {
         say(b"draw: too few raw bytes on standard input\n");
         return;

@@ -32,15 +32,17 @@ someItems tapes.other = false
 unfoldable pub isCode : ℕ → Bool
 isCode code = someItems (tapes.kindOf code)
 
+-- the first argument: a number that is a ring code
 abbrev pub codeIn : Number → Number
 codeIn (Read n) = cond (isCode n) (Read n) NoNumber
 codeIn NoNumber = NoNumber
 
--- "At most 512 lines of each tape kind"
+-- the second, "At most 512 lines of each tape kind"
 abbrev pub fewIn : Number → Number
 fewIn (Read n) = cond (ltb 512 n) NoNumber (Read n)
 fewIn NoNumber = NoNumber
 
+-- whether two texts are the same
 unfoldable pub sameBytes : List ℕ → List ℕ → Bool
 sameBytes [] [] = true
 sameBytes [] (b ∷ bs) = false
@@ -54,6 +56,7 @@ masksName = 109 ∷ 97 ∷ 115 ∷ 107 ∷ 115 ∷ []
 abbrev pub dealerName : List ℕ
 dealerName = 100 ∷ 101 ∷ 97 ∷ 108 ∷ 101 ∷ 114 ∷ []
 
+-- the third: one of the two names
 unfoldable pub kindOf : List ℕ → KindRead
 kindOf text = cond (sameBytes text masksName) (Found Masks) (cond (sameBytes text dealerName) (Found Dealer) NoKind)
 
@@ -64,12 +67,13 @@ asks (Read n) NoNumber k = asked.NoCount
 asks (Read n) (Read c) NoKind = asked.NoKind
 asks (Read n) (Read c) (Found k) = asked.Lines n c k
 
--- a count that was asked is small
+-- what the texts of the arguments ask for
+unfoldable pub askedOf : (ring count kind : List ℕ) → Asked
+askedOf r c k = asks (codeIn (told (numberOf r))) (fewIn (told (numberOf c))) (kindOf k)
+
+-- a count that is asked for is small
 abbrev pub Few : Asked → Type 0
 Few (asked.Lines n c k) = c ≤ 512
 Few asked.NoRing = Unit {0}
 Few asked.NoCount = Unit {0}
 Few asked.NoKind = Unit {0}
-
-unfoldable pub askedOf : (ring count kind : List ℕ) → Asked
-askedOf r c k = asks (codeIn (told (numberOf r))) (fewIn (told (numberOf c))) (kindOf k)

@@ -25,6 +25,7 @@ drawnBy kind n o = record { refusal = o .refusal; bytes = cond (eqb (o .refusal)
 abbrev pub itemsOf : (code n : ℕ) → Kind → List ℕ → Outcome
 itemsOf code n kind raw = prepared code (rawWords (length raw / 8) raw) (replicate (perLine kind * n) 0)
 
+-- what is printed for a ring code, a count and a kind, from raw bytes
 unfoldable pub drawn : (code n : ℕ) → Kind → List ℕ → Output
 drawn code n kind raw = drawnBy kind n (itemsOf code n kind raw)
 

@@ -15,6 +15,7 @@ abbrev pub commandAt : Kind → ℕ → List ℕ → Command
 commandAt Masks k ts = command.Masks (getD ts (3 * k) 0) (getD ts (3 * k + 1) 0) (getD ts (3 * k + 2) 0)
 commandAt Dealer k ts = command.Dealer (getD ts k 0)
 
+-- what the first n lines add
 unfoldable pub commandsOf : Kind → ℕ → List ℕ → List Command
 commandsOf kind zero ts = []
 commandsOf kind (suc k) ts = commandsOf kind k ts ++ (commandAt kind k ts ∷ [])

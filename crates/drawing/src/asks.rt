@@ -13,6 +13,7 @@ pub enum Number {
     NoNumber,
 }
 
+// The kind that a name says, if it says one.
 pub enum KindRead {
     Found(Kind),
     NoKind,

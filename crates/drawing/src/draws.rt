@@ -54,7 +54,7 @@ fn items_buffer() -> [u64; 1536]
     [0; 1536]
 }
 
-// n lines of a kind for a ring code, from raw bytes.
+// n lines of a kind for a ring code, from raw bytes: at most four fields of 21 bytes a line.
 pub fn draw(code: u64, n: usize, kind: Kind, raw: &[u8], out: &mut [u8]) -> Drawn
     requires lines { ⌜ n ≤ 512 ⌝ }
     requires raw { ⌜ length (now raw) ≤ 65536 ⌝ }

@@ -48,6 +48,7 @@ fn put_dealer(items: &[u64], k: usize, out: &mut [u8], at: usize) -> usize
     put_field(out, a, items[k], 10)
 }
 
+// Line k of either kind.
 fn put_line(kind: Kind, items: &[u64], k: usize, out: &mut [u8], at: usize) -> usize
     requires items { ⌜ perLine kind * (k + 1) ≤ length (now items) ⌝ }
     requires room { ⌜ at + 84 ≤ length (now out) ⌝ }

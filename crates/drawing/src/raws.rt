@@ -5,6 +5,7 @@ ghost use Prim.Native.Nat.{_+_, _*_, _/_, _≤_, _<_};
 ghost use lib.ListN.{drop, length};
 ghost use Rattle.drawing.specs.Raws.{halfAt, rawWords, wordAt};
 
+// A byte as a word, with its bound.
 fn wide(b: u8) -> u64
     ensures is { λ r. ⌜ r ≡ b ⌝ }
     ensures below { λ r. ⌜ r < 256 ⌝ }
