@@ -95,7 +95,7 @@ unfolding decimal
 no-leading-zero n h = lead-by (suc n) n (omega arith) h
 
 -- a decimal as a field that is read
-fit-decimal : (n : ℕ) → n < 2 ^ 64 → Fit (decimal n)
+pub fit-decimal : (n : ℕ) → n < 2 ^ 64 → Fit (decimal n)
 unfolding decimal
 fit-decimal n h =
     record {

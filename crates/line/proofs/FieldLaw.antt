@@ -91,7 +91,7 @@ module _ (f : List ℕ) (b : ℕ) where
   unfit : (Fit (f ++ (b ∷ [])) → ⊥) → fits (f ++ (b ∷ [])) ≡ false
   unfit never = split (fits (f ++ (b ∷ []))) (λ e. absurd (never (true-fit _ e))) (λ e. e)
 
-  unfit-more : fits f ≡ false → fits (f ++ (b ∷ [])) ≡ false
+  pub unfit-more : fits f ≡ false → fits (f ++ (b ∷ [])) ≡ false
   unfit-more h = unfit (λ g. contrary (fit-true (more-fit g)) h)
 
   pub unfit-other : isDigit b ≡ false → fits (f ++ (b ∷ [])) ≡ false
@@ -108,7 +108,7 @@ pub number-none : (f : List ℕ) → length f ≡ 0 → numberOf f ≡ none
 unfolding numberOf
 number-none f h = rw h
 
-number-unfit : (f : List ℕ) → fits f ≡ false → numberOf f ≡ none
+pub number-unfit : (f : List ℕ) → fits f ≡ false → numberOf f ≡ none
 unfolding numberOf
 number-unfit f h = rw (h, and-false)
 

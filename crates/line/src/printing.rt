@@ -18,7 +18,7 @@ fn digit_count(n: u64) -> usize
 }
 
 // Writes the decimal of n at `at`, with a byte after it, and answers the place after both.
-fn put_field(out: &mut [u8], at: usize, n: u64, end: u8) -> usize
+pub fn put_field(out: &mut [u8], at: usize, n: u64, end: u8) -> usize
     requires { ⌜ at + 21 ≤ length (now out) ⌝ }
     ensures writes { λ r. ⌜ Wrote at (field n end) (now (out .entry)) (now (out .exit)) r ⌝ }
     ensures short { λ r. ⌜ r ≤ at + 21 ⌝ }

@@ -1,0 +1,5 @@
+pub mod AskLaw
+pub mod RawLaw
+pub mod LinesLaw
+pub mod DrawLaw
+pub mod Theorems
