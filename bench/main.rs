@@ -25,10 +25,7 @@ const TABLE_1: [(&str, f64); 3] = [
 ];
 
 fn table_1(timed: &[(&str, f64)]) {
-    println!(
-        "{:<28} {:>10} {:>10}",
-        "millions a second", "Rattle", "table 1"
-    );
+    println!("{:<28} {:>10} {:>10}", "millions a second", "Rattle", "000");
     for (name, figure) in TABLE_1 {
         let (_, ns) = timed.iter().find(|row| row.0 == name).unwrap();
         println!("{name:<28} {:>10.3} {figure:>10.3}", 1e3 / ns);
@@ -37,9 +34,10 @@ fn table_1(timed: &[(&str, f64)]) {
 
 fn main() {
     let mut draw = Draw::new(20_240_601);
-    measure::head("ns");
+    measure::head();
     chains::run(&mut draw);
     let timed = orders::run(&mut draw);
     whole::run(&mut draw);
+    println!();
     table_1(&timed);
 }

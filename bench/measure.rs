@@ -17,15 +17,10 @@ pub fn measure(rounds: usize, turns: usize, sides: &mut [&mut dyn FnMut()]) -> V
     least
 }
 
-pub fn head(unit: &str) {
+pub fn head() {
     println!(
         "{:<28} {:>10} {:>10} {:>6} {:>10} {:>6}",
-        format!("times in {unit}"),
-        "Rattle",
-        "plain",
-        "ratio",
-        "reference",
-        "ratio"
+        "ns", "Rattle", "plain Rust", "ratio", "reference", "ratio"
     );
 }
 

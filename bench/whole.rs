@@ -1,6 +1,6 @@
-//! Rows of whole jobs: programs run on one file of a million lines.
+//! The row of whole jobs: programs run on one file of a million lines.
 
-use crate::measure::{head, measure, row};
+use crate::measure::{measure, row};
 use jobs::draw::Draw;
 use jobs::orders::sensible;
 use jobs::valid::choose;
@@ -10,7 +10,8 @@ use std::fs::{read, write, File};
 use std::path::Path;
 use std::process::{Command, Stdio};
 
-const ROUNDS: usize = 11;
+const NAME: &str = "job of 1,000,000, a line";
+const ROUNDS: usize = 25;
 const JOB: &str = "target/bench/job";
 const PRINTED: &str = "target/bench/printed";
 /// Rattle, plain Rust, reference.
@@ -48,19 +49,22 @@ fn printed(program: &str) -> Vec<u8> {
     read(PRINTED).unwrap()
 }
 
+/// Nanoseconds a line.
+fn times() -> Vec<f64> {
+    let [mut ours, mut plain, mut reference] =
+        PROGRAMS.map(|program| move || run_program(program, Stdio::null()));
+    let times = measure(ROUNDS, 1, &mut [&mut ours, &mut plain, &mut reference]);
+    times.iter().map(|time| time / LAST_LINE as f64).collect()
+}
+
 pub fn run(draw: &mut Draw) {
-    let Some(missing) = PROGRAMS.iter().find(|program| !Path::new(program).exists()) else {
-        write(JOB, job(draw)).unwrap();
-        let [ours, plain, reference] = PROGRAMS.map(printed);
-        assert!(plain == reference, "plain Rust prints something else");
-        assert!(ours == reference, "Rattle prints something else");
-        let [mut ours, mut plain, mut reference] =
-            PROGRAMS.map(|program| move || run_program(program, Stdio::null()));
-        let times = measure(ROUNDS, 1, &mut [&mut ours, &mut plain, &mut reference]);
-        let in_ms: Vec<f64> = times.iter().map(|time| time / 1e6).collect();
-        head("ms");
-        row("job of 1,000,000 lines", &in_ms);
+    if let Some(missing) = PROGRAMS.iter().find(|program| !Path::new(program).exists()) {
+        println!("{NAME:<28} left out: there is no {missing}");
         return;
-    };
-    println!("whole jobs are left out: there is no {missing}");
+    }
+    write(JOB, job(draw)).unwrap();
+    let [ours, plain, reference] = PROGRAMS.map(printed);
+    assert!(ours == reference, "Rattle prints something else");
+    assert!(plain == reference, "plain Rust prints something else");
+    row(NAME, &times());
 }
