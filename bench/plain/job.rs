@@ -23,6 +23,7 @@ struct Line {
 }
 
 impl Line {
+    #[inline(always)]
     fn byte(&mut self, byte: u8) {
         self.seen = true;
         match byte {
@@ -36,6 +37,7 @@ impl Line {
         }
     }
 
+    #[inline(always)]
     fn digit(&mut self, digit: u64) {
         self.digits += 1;
         let field = &mut self.fields[self.commas];
@@ -110,19 +112,16 @@ impl Session {
     }
 }
 
-/// Appends the decimal of n and a byte.
-fn put(out: &mut Vec<u8>, mut n: u64, end: u8) {
-    let (mut digits, mut at) = ([0; 20], 20);
-    loop {
-        at -= 1;
-        digits[at] = b'0' + (n % 10) as u8;
-        n /= 10;
-        if n == 0 {
-            break;
-        }
+/// Writes the decimal of n and a byte at `at`; the place after both.
+fn put(out: &mut [u8], at: usize, n: u64, end: u8) -> usize {
+    let digits = n.checked_ilog10().map_or(1, |log| log as usize + 1);
+    let mut left = n;
+    for place in out[at..at + digits].iter_mut().rev() {
+        *place = b'0' + (left % 10) as u8;
+        left /= 10;
     }
-    out.extend_from_slice(&digits[at..]);
-    out.push(end);
+    out[at + digits] = end;
+    at + digits + 1
 }
 
 /// A job under way: the lines read, and what they printed so far.
@@ -130,7 +129,8 @@ struct Job<W> {
     session: Session,
     line: Line,
     number: u64,
-    printed: Vec<u8>,
+    out: Vec<u8>,
+    at: usize,
     output: W,
 }
 
@@ -159,21 +159,24 @@ impl<W: Write> Job<W> {
     }
 
     fn print(&mut self, refusal: u64, value: u64) -> Result<()> {
-        if self.printed.len() + LONGEST > BUFFER {
+        if self.at + LONGEST > BUFFER {
             self.write_out()?;
         }
-        let record = &self.session.record;
-        put(&mut self.printed, self.number, b',');
-        put(&mut self.printed, refusal, b',');
-        put(&mut self.printed, value, b',');
-        put(&mut self.printed, record.masks_at, b',');
-        put(&mut self.printed, record.channels_at, b'\n');
+        let Record {
+            masks_at,
+            channels_at,
+            ..
+        } = self.session.record;
+        let fields = [self.number, refusal, value, masks_at, channels_at];
+        for (field, end) in fields.into_iter().zip(*b",,,,\n") {
+            self.at = put(&mut self.out, self.at, field, end);
+        }
         Ok(())
     }
 
     fn write_out(&mut self) -> Result<()> {
-        self.output.write_all(&self.printed)?;
-        self.printed.clear();
+        self.output.write_all(&self.out[..self.at])?;
+        self.at = 0;
         Ok(())
     }
 }
@@ -185,7 +188,8 @@ pub fn run(mut input: impl Read, output: impl Write) -> Result<()> {
         session: Session::new(),
         line: Line::default(),
         number: 0,
-        printed: Vec::with_capacity(BUFFER),
+        out: vec![0; BUFFER],
+        at: 0,
         output,
     };
     loop {
