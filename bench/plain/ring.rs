@@ -40,14 +40,14 @@ impl Ring {
         }
     }
 
-    #[cfg(not(halves))]
+    #[cfg(wide)]
     pub fn mul(self, a: u64, b: u64) -> u64 {
         let product = u128::from(a) * u128::from(b);
         self.reduce_once((product >> self.width) as u64 + (product as u64 & self.p))
     }
 
     /// Without 128-bit numbers: the factors are cut above bit k, the middle column at bit k.
-    #[cfg(halves)]
+    #[cfg(not(wide))]
     pub fn mul(self, a: u64, b: u64) -> u64 {
         let k = self.width / 2;
         let low = self.p >> k;
