@@ -15,7 +15,7 @@ use Rattle.session.specs.declared.sessions.Progress.{Progress}
 use Rattle.session.specs.declared.sessions.Turn.{Turn}
 
 module _ (w : Standing) where
-  late-after : million ≤ w .lines → standing (w .state) (w .lines) started ≡ afterEnd w
+  pub late-after : million ≤ w .lines → standing (w .state) (w .lines) started ≡ afterEnd w
   unfolding afterEnd
   late-after h = rw (le-ltb (w .lines) million h) refl
 
@@ -23,7 +23,7 @@ module _ (w : Standing) where
   unfolding printedAt
   late-printed h = rw (le-ltb (w .lines) million h) refl
 
-  line-after : (t : Turned) → t ≡ lineTaken w → w .lines < million → standing (t .state) (w .lines + 1) started ≡ afterEnd w
+  pub line-after : (t : Turned) → t ≡ lineTaken w → w .lines < million → standing (t .state) (w .lines + 1) started ≡ afterEnd w
   unfolding afterEnd
   line-after t e h = rw (lt-ltb (w .lines) million h) (ap (λ (x : Turned). standing (x .state) (w .lines + 1) started) e)
 

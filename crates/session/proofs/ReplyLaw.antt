@@ -1,15 +1,10 @@
--- What a reply prints.
+-- Nothing written, and the same bytes written.
 use Prim.Native.Nat.{ℕ}
 use mathlib.Core.List.{List, []}
-use mathlib.Core.Path.{_≡_, ap, subst, sym}
+use mathlib.Core.Path.{_≡_, subst, sym}
 use native.Mathlib.Nat.{add-zero}
 use lib.ListN.{take-append-drop}
-use Rattle.machine.specs.Step.{written}
-use Rattle.machine.specs.declared.registers.Machine.{Machine}
-use Rattle.line.specs.Printed.{Wrote, printed}
-use Rattle.session.specs.Outputs.{replied}
-use Rattle.session.specs.declared.replies.Reply.{Reply}
-use Rattle.session.specs.declared.replies.Reply.the-variants.{Says, Silent}
+use Rattle.line.specs.Printed.{Wrote}
 
 -- nothing written
 pub wrote-none : (at : ℕ) (out : List ℕ) → Wrote at [] out out at

@@ -9,7 +9,7 @@ use borrow.Author.Tests.{le-ltb, lt-ltb}
 use lib.ListN.{length, length-set, set, take}
 use lib.Seq.{length-take-le, take-suc-set}
 use borrow.Rule.Slice.PartMut.{midOf}
-use Rattle.gate.specs.Places.{Place}
+use Rattle.gate.specs.Places.{Place, p0}
 use Rattle.machine.specs.Step as defined
 use Rattle.machine.specs.Step.{step}
 use Rattle.machine.specs.declared.orders.Order.{Order}
@@ -30,12 +30,20 @@ added n t i e h = rw (add-one n) (take-suc-set t n i (omega (arith, e)))
 count : (n : ℕ) (t : List ℕ) → length t ≡ most → n ≤ most → length (take n t) ≡ n
 count n t e h = length-take-le n t (omega (arith, e))
 
+-- where 512 were taken
+pub masks-over : (s : State) (i₀ i₁ i₂ : ℕ) → most ≤ length (s .tapes .masks p0) → masksTaken s i₀ i₁ i₂ ≡ declined s
+unfolding masksTaken
+masks-over s i₀ i₁ i₂ full = rw le-ltb refl
+
+pub item-over : (s : State) (i : ℕ) → most ≤ length (s .tapes .dealer) → itemTaken s i ≡ declined s
+unfolding itemTaken
+item-over s i full = rw le-ltb refl
+
 module _ (m : Machine) (n : ℕ) (t₀ t₁ t₂ : List ℕ) (i₀ i₁ i₂ : ℕ) (dealer : List ℕ) (c : Place → List ℕ) where
   pub masks-full : length t₀ ≡ most → n ≤ most → most ≤ n
       → declined (state m (tapes (take n t₀) (take n t₁) (take n t₂) dealer) c)
       ≡ masksTaken (state m (tapes (take n t₀) (take n t₁) (take n t₂) dealer) c) i₀ i₁ i₂
-  unfolding masksTaken
-  masks-full e few full = rw (count n t₀ e few, le-ltb n most full) refl
+  masks-full e few full = sym (masks-over _ i₀ i₁ i₂ (omega (arith, count n t₀ e few)))
 
   pub masks-added : length t₀ ≡ most → length t₁ ≡ most → length t₂ ≡ most → n < most
       → turned (state m (tapes (take (n + 1) (set t₀ n i₀)) (take (n + 1) (set t₁ n i₁)) (take (n + 1) (set t₂ n i₂)) dealer) c) Silent
@@ -47,8 +55,7 @@ module _ (m : Machine) (n : ℕ) (t₀ t₁ t₂ : List ℕ) (i₀ i₁ i₂ : �
 module _ (m : Machine) (t₀ t₁ t₂ : List ℕ) (n : ℕ) (dealer : List ℕ) (i : ℕ) (c : Place → List ℕ) where
   pub item-full : length dealer ≡ most → n ≤ most → most ≤ n
       → declined (state m (tapes t₀ t₁ t₂ (take n dealer)) c) ≡ itemTaken (state m (tapes t₀ t₁ t₂ (take n dealer)) c) i
-  unfolding itemTaken
-  item-full e few full = rw (count n dealer e few, le-ltb n most full) refl
+  item-full e few full = sym (item-over _ i (omega (arith, count n dealer e few)))
 
   pub item-added : length dealer ≡ most → n < most
       → turned (state m (tapes t₀ t₁ t₂ (take (n + 1) (set dealer n i))) c) Silent

@@ -1,3 +1,4 @@
 pub mod Outputs
 pub mod Standings
 pub mod Kept
+pub mod Theorems

@@ -7,7 +7,7 @@ use lib.ListN.{length, replicate, take}
 use Rattle.gate.specs.Places.{Place, p0, p1, p2, three}
 use Rattle.machine.specs.Checks.{Tapes}
 use Rattle.machine.specs.Registers.{emptyMachine, million}
-use Rattle.machine.specs.Step.{Outcome, step}
+use Rattle.machine.specs.Step.{step}
 use Rattle.machine.specs.declared.orders.Order as orders
 use Rattle.machine.specs.declared.registers.Machine.{Machine}
 use Rattle.line.specs.Lines.{commandOf, linesOf}

@@ -1,21 +1,15 @@
 -- Where a job stands between two bytes of its input, so that the input may come in chunks.
-use Prim.Native.Nat.{ℕ, _+_, _≤_}
+use Prim.Native.Nat.{ℕ, _+_}
 use mathlib.Core.Bool.{cond}
 use mathlib.Core.List.{List, [], _∷_, _++_}
 use mathlib.Core.Path.{_≡_}
 use lib.Dec.{eqb, ltb}
-use lib.ListN.{length, take}
-use Rattle.gate.specs.Places.{Place, three}
 use Rattle.machine.specs.Registers.{million}
-use Rattle.line.specs.Lines.{lineIn}
-use Rattle.line.specs.Readings.{byteOn, commandIn, readOn}
+use Rattle.line.specs.Readings.{byteOn, commandIn}
 use Rattle.line.specs.Printed.{Wrote}
 use Rattle.line.specs.Readings as readings
 use Rattle.line.specs.declared.readings.Reading.{Reading}
-use Rattle.session.specs.Outputs.{State, Turned, most, replied, started, state, taken, tapes, turned}
-use Rattle.session.specs.declared.sessions.Progress.{Progress}
-use Rattle.session.specs.declared.sessions.Session.{Session}
-use Rattle.session.specs.declared.sessions.Turn.{Turn}
+use Rattle.session.specs.Outputs.{State, Turned, replied, started, taken}
 
 -- what the lines so far leave, how many there were, and what was read of the next
 pub record Standing : Type 0 where

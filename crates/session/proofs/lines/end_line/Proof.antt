@@ -1,11 +1,12 @@
 -- A line's end is the definition's, before and after line 1,000,000.
-use Prim.Native.Nat.{_<_}
+use Prim.Native.Nat.{ℕ, _<_}
+use mathlib.Core.List.{List}
 use mathlib.Core.Path.{ap}
 use native.Mathlib.Omega.{arith}
 use borrow.Author.Needs.{needs}
-use Rattle.gate.specs.Places.{three}
+use Rattle.gate.specs.Places.{Place, three}
 use Rattle.machine.specs.Registers.{million}
-use Rattle.session.specs.Kept.{standingOf}
+use Rattle.session.specs.Kept.{standingOf, turnedOf}
 use Rattle.session.specs.Standings.{Standing}
 use Rattle.session.specs.declared.sessions.Progress.{Progress}
 use Rattle.session.proofs.EndLaw.{by-reading, late-kept, late-printed, line-kept, line-printed}
@@ -14,10 +15,12 @@ use Rattle.session.proofs.TurnLaw.{same-dealer, same-masks}
 use Rattle.session.proofs.lines.end_line.Statement.{statement}
 use Rattle.session.proofs.lines.end_line.Tie as tie
 
+abbrev channelsAt : tie.Start → Place → List ℕ
+channelsAt a = three (a .args .c0 .now) (a .args .c1 .now) (a .args .c2 .now)
+
 abbrev standsAt : tie.Start → Standing
 standsAt a =
-    standingOf (a .args .p) (a .args .m0 .now) (a .args .m1 .now) (a .args .m2 .now) (a .args .dealer .now)
-    (three (a .args .c0 .now) (a .args .c1 .now) (a .args .c2 .now))
+    standingOf (a .args .p) (a .args .m0 .now) (a .args .m1 .now) (a .args .m2 .now) (a .args .dealer .now) (channelsAt a)
 
 abbrev start : tie.After-take-command-arg7 → tie.Start
 start c = c .before .before .before .before .before .before .before .before .before .before .before .before .before .before .before .before .before .before .before .before .before
@@ -32,7 +35,7 @@ late : tie.Need-returns
 late c =
     let a = c .before .before .before .before .before .before .before .before .before .before .before .before in
     let made = c .at-line .ensures in (
-      late-kept (a .args .m0 .now) (a .args .m1 .now) (a .args .m2 .now) (a .args .dealer .now) _ (a .args .p) (c .at-line .result) made (omega arith),
+      late-kept (a .args .m0 .now) (a .args .m1 .now) (a .args .m2 .now) (a .args .dealer .now) (channelsAt a) (a .args .p) (c .at-line .result) made (omega arith),
       (
         wrote-same (late-printed (standsAt a) (omega arith)) (wrote-none (a .args .at) (a .args .out .now)),
         (omega arith, (same-masks (ap (λ (q : Progress). q .session .masks) made) (a .pre .0), same-dealer (ap (λ (q : Progress). q .session .dealer) made) (a .pre .1 .0))),
@@ -47,10 +50,15 @@ done c =
     let few = early (called .before .before .before .before .before .before .before .before .before .before .before) in
     let told = called .take-command .ensures in
     let made = c .at-line2 .ensures in
-    let is = by-reading (standsAt a) (called .before .before .before .before .before .before .before .before .command .ensures .0) (told .0) in (
-      line-kept _ _ _ _ _ (standsAt a) (called .take-command .result) (c .at-line2 .result) made is few,
+    let masks = called .take-command .last .1 .1 in
+    let dealer = masks .1 .1 .1 in
+    let left = dealer .1 in
+    let channels = three (left .0) (left .1 .0) (left .1 .1 .0) in
+    let turn = turnedOf (called .take-command .result) (masks .0) (masks .1 .0) (masks .1 .1 .0) (dealer .0) channels in
+    let is = by-reading {t = turn} (standsAt a) (called .before .before .before .before .before .before .before .before .command .ensures .0) (told .0) in (
+      line-kept (masks .0) (masks .1 .0) (masks .1 .1 .0) (dealer .0) channels (standsAt a) (called .take-command .result) (c .at-line2 .result) made is few,
       (
-        wrote-same (line-printed (standsAt a) _ is few) (printed .print-reply .ensures .0),
+        wrote-same (line-printed (standsAt a) turn is few) (printed .print-reply .ensures .0),
         (printed .print-reply .ensures .1, (same-masks (ap (λ (q : Progress). q .session .masks) made) (told .1 .0), same-dealer (ap (λ (q : Progress). q .session .dealer) made) (told .1 .1))),
       ),
     )
@@ -59,19 +67,9 @@ pub end-line-spec : {M : Type 1} → statement M
 end-line-spec =
     tie.close
     (tie.spec
-    (λ c κs. search needs)
-    late
-    (λ c. search needs)
-    (λ c κs. search needs)
+    (λ c κs. search needs) late (λ c. search needs) (λ c κs. search needs)
     (λ c κs. (start c .pre .0, start c .pre .1 .0))
     (λ c κs. start (taken c .before) .pre .1 .1)
     (λ c κs. search needs)
-    (λ c. search needs)
-    (λ c. search needs)
-    (λ c. search needs)
-    (λ c. search needs)
-    (λ c. search needs)
-    (λ c. search needs)
-    (λ c. search needs)
-    (λ c. search needs)
-    done)
+    (λ c. search needs) (λ c. search needs) (λ c. search needs) (λ c. search needs)
+    (λ c. search needs) (λ c. search needs) (λ c. search needs) (λ c. search needs) done)

@@ -60,9 +60,12 @@ loop-again c =
     let turn = entered (called c .before) in
     let inv = turn .before .loop .inv in
     let told = called c .take-one .ensures in
-    let room = start (turn .before) .pre .1 .1 in (
+    let room = start (turn .before) .pre .1 .1 in
+    let left = called c .take-one .last .1 .1 .1 in
+    let channels = left .1 .1 .1 .1 in
+    let standing = standingOf (called c .take-one .result .progress) (left .0) (left .1 .0) (left .1 .1 .0) (left .1 .1 .1 .0) (three (channels .0) (channels .1 .0) (channels .1 .1 .0)) in (
       record {
-        done = advanced-on (inv .0 .done) (told .0) (omega (arith, inv .0 .short, inv .0 .within, room));
+        done = advanced-on {u = standing} (inv .0 .done) (told .0) (omega (arith, inv .0 .short, inv .0 .within, room));
         within = told .1 .1 .0;
         short = omega (arith, told .1 .1 .1 .0, inv .0 .short);
         long = omega (arith, inv .0 .long);
@@ -84,19 +87,6 @@ returns c =
 pub feed-spec : {M : Type 1} → statement M
 feed-spec =
     tie.close
-    (tie.spec
-    Inv-loop
-    μ-loop
-    loop-holds
-    take-one-requires
-    loop-less
-    loop-again
-    (λ c. omega arith)
-    (λ c. omega arith)
-    (λ c. omega arith)
-    (λ c. omega arith)
-    (λ c. omega arith)
-    (λ c. omega arith)
-    (λ c. omega arith)
-    (λ c. omega arith)
-    returns)
+    (tie.spec Inv-loop μ-loop loop-holds take-one-requires loop-less loop-again
+    (λ c. omega arith) (λ c. omega arith) (λ c. omega arith) (λ c. omega arith)
+    (λ c. omega arith) (λ c. omega arith) (λ c. omega arith) (λ c. omega arith) returns)

@@ -26,7 +26,7 @@ line c =
     let end = c .before .before .before .before .before .before .before .before .before .before .before .before .before .before .before .before in
     let seen = entered (end .before) in
     let last = last-seen (standsAt (start (seen .before))) (seen .if1 .taken) in
-    (end .end-line .ensures .0 ∙ last .0, (wrote-same (last .1) (end .end-line .ensures .1 .0), omega (arith, end .end-line .ensures .1 .1 .0, start (seen .before) .pre .1 .1, c .before .out .given)))
+    (rw (last .0) at (end .end-line .ensures .0), (wrote-same (last .1) (end .end-line .ensures .1 .0), omega (arith, end .end-line .ensures .1 .1 .0, start (seen .before) .pre .1 .1, c .before .out .given)))
 
 none : tie.Need-returns-2
 none c =
@@ -39,13 +39,5 @@ finish-spec =
     tie.close
     (tie.spec
     (λ c κs. start (entered c .before) .pre)
-    (λ c. search needs)
-    (λ c. search needs)
-    (λ c. search needs)
-    (λ c. search needs)
-    (λ c. search needs)
-    (λ c. search needs)
-    (λ c. search needs)
-    (λ c. search needs)
-    line
-    none)
+    (λ c. search needs) (λ c. search needs) (λ c. search needs) (λ c. search needs)
+    (λ c. search needs) (λ c. search needs) (λ c. search needs) (λ c. search needs) line none)

@@ -56,9 +56,12 @@ line c =
     let told = end .end-line .ensures in
     let stops = inside (end .before .before .before .before .before .before .before .before .before) in
     let here = taken .take-line .ensures .1 in
-    let short = told .1 .1 .0 in (
+    let short = told .1 .1 .0 in
+    let left = end .end-line .last .1 in
+    let channels = left .1 .1 .1 .1 in
+    let standing = standingOf (end .end-line .result .progress) (left .0) (left .1 .0) (left .1 .1 .0) (left .1 .1 .1 .0) (three (channels .0) (channels .1 .0) (channels .1 .1 .0)) in (
       advanced-closed (standsAt a) (a .args .buf .now) (a .args .i) (taken .take-line .result .at) (taken .take-line .result .reading)
-          (taken .take-line .ensures .0) here (told .0) (told .1 .0) stops (a .pre .1 .1 .0),
+          (taken .take-line .ensures .0) here {v = standing} (told .0) (told .1 .0) stops (a .pre .1 .1 .0),
       (omega (arith, here), (omega (arith, stops), (omega (arith, here, short), (told .1 .1 .1 .0, told .1 .1 .1 .1)))),
     )
 
@@ -66,16 +69,8 @@ pub take-one-spec : {M : Type 1} → statement M
 take-one-spec =
     tie.close
     (tie.spec
-    (λ c κs. search needs)
-    rest
+    (λ c κs. search needs) rest
     (λ c κs. let a = start (read c) in (a .pre .0, (a .pre .1 .0, a .pre .1 .1 .1)))
     (λ c. room (ended c .before .before .before .before .before .before .before .before .before))
-    (λ c. search needs)
-    (λ c. search needs)
-    (λ c. search needs)
-    (λ c. search needs)
-    (λ c. search needs)
-    (λ c. search needs)
-    (λ c. search needs)
-    (λ c. search needs)
-    line)
+    (λ c. search needs) (λ c. search needs) (λ c. search needs) (λ c. search needs)
+    (λ c. search needs) (λ c. search needs) (λ c. search needs) (λ c. search needs) line)

@@ -23,9 +23,5 @@ pub print-reply-spec : {M : Type 1} → statement M
 print-reply-spec =
     tie.close
     (tie.spec
-    (λ c. search needs)
-    (λ c. search needs)
-    (λ c κs. search needs)
-    silent
-    (λ c. search needs)
-    said)
+    (λ c. search needs) (λ c. search needs) (λ c κs. search needs) silent
+    (λ c. search needs) said)

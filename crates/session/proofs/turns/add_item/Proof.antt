@@ -30,10 +30,5 @@ pub add-item-spec : {M : Type 1} → statement M
 add-item-spec =
     tie.close
     (tie.spec
-    (λ c κs. search needs)
-    declined
-    (λ c. search needs)
-    (λ c. search needs)
-    (λ c. search needs)
-    (λ c. search needs)
-    added)
+    (λ c κs. search needs) declined (λ c. search needs) (λ c. search needs)
+    (λ c. search needs) (λ c. search needs) added)

@@ -30,16 +30,6 @@ pub add-masks-spec : {M : Type 1} → statement M
 add-masks-spec =
     tie.close
     (tie.spec
-    (λ c κs. search needs)
-    declined
-    (λ c. search needs)
-    (λ c. search needs)
-    (λ c. search needs)
-    (λ c. search needs)
-    (λ c. search needs)
-    (λ c. search needs)
-    (λ c. search needs)
-    (λ c. search needs)
-    (λ c. search needs)
-    (λ c. search needs)
-    added)
+    (λ c κs. search needs) declined (λ c. search needs) (λ c. search needs)
+    (λ c. search needs) (λ c. search needs) (λ c. search needs) (λ c. search needs)
+    (λ c. search needs) (λ c. search needs) (λ c. search needs) (λ c. search needs) added)

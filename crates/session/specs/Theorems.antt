@@ -1,0 +1,79 @@
+-- Facts about what whole jobs print, for all bytes of input. Proofs: proofs/Theorems.antt.
+use Prim.Native.Nat.{ℕ, _+_, _≤_}
+use mathlib.Core.List.{List, [], _∷_, _++_}
+use mathlib.Core.Path.{_≡_}
+use lib.ListN.{length, replicate}
+use Rattle.gate.specs.Places.{p0, three}
+use Rattle.machine.specs.Registers.{million}
+use Rattle.line.specs.Lines.{commandOf}
+use Rattle.line.specs.Printed.{printed}
+use Rattle.line.specs.declared.commands.Command.the-variants.{Dealer, Masks, Unreadable}
+use Rattle.session.specs.Kept.{atLine, noLines, standingOf}
+use Rattle.session.specs.Outputs.{State, most, output, outputFrom, silence}
+use Rattle.session.specs.Standings.{Standing, afterBytes, begun, printedBy, printedLast}
+
+-- read byte by byte to the end of input, a job prints its output
+abbrev pub Output : Type 0
+Output = (bytes : List ℕ) → printedBy begun bytes ++ printedLast (afterBytes begun bytes) ≡ output bytes
+
+-- the bytes may come in chunks, cut anywhere
+abbrev pub InChunks : Type 0
+InChunks = (w : Standing) (xs ys : List ℕ)
+    → (printedBy w (xs ++ ys) ≡ printedBy w xs ++ printedBy (afterBytes w xs) ys)
+    × (afterBytes w (xs ++ ys) ≡ afterBytes (afterBytes w xs) ys)
+
+-- "Reading stops after line 1,000,000": what follows prints nothing
+abbrev pub Stops : Type 0
+Stops = (w : Standing) → million ≤ w .lines → (bytes : List ℕ)
+    → (printedBy w bytes ≡ []) × (printedLast (afterBytes w bytes) ≡ [])
+
+-- what the code keeps before the first line is the definition's start, whatever the runs for tapes hold
+abbrev pub Starts : Type 0
+Starts = (t₀ t₁ t₂ dealer : List ℕ)
+    → standingOf (atLine noLines 0) t₀ t₁ t₂ dealer (three silence silence silence) ≡ begun
+
+-- "prints 13 as refusal and changes nothing": line l, number n, of a job at s with the lines ls to come
+abbrev pub Prints13 : (n : ℕ) → State → (l : List ℕ) (ls : List (List ℕ)) → Type 0
+Prints13 n s l ls =
+    outputFrom n s (l ∷ ls) ≡ printed n 13 0 (s .machine .«masks_at») (s .machine .«channels_at») ++ outputFrom (n + 1) s ls
+
+-- "An empty or otherwise unreadable line .. or a tape line after 512 taken of its kind"
+abbrev pub Refused : Type 0
+Refused = (n : ℕ) (s : State) (l : List ℕ) (ls : List (List ℕ))
+    → (commandOf l ≡ Unreadable → Prints13 n s l ls)
+    × ((t₀ t₁ t₂ : ℕ) → commandOf l ≡ Masks t₀ t₁ t₂ → most ≤ length (s .tapes .masks p0) → Prints13 n s l ls)
+    × ((item : ℕ) → commandOf l ≡ Dealer item → most ≤ length (s .tapes .dealer) → Prints13 n s l ls)
+
+-- 01's example but for its last line: "10,1", "10,2", "1,0,13,5" and "9,0", each with byte 10
+abbrev pub asked : List ℕ
+asked =
+    (49 ∷ 48 ∷ 44 ∷ 49 ∷ 10 ∷ [])
+    ++ ((49 ∷ 48 ∷ 44 ∷ 50 ∷ 10 ∷ [])
+    ++ ((49 ∷ 44 ∷ 48 ∷ 44 ∷ 49 ∷ 51 ∷ 44 ∷ 53 ∷ 10 ∷ [])
+    ++ (57 ∷ 44 ∷ 48 ∷ 10 ∷ [])))
+
+-- and what that prints: "3,0,0,0,0" and "4,0,5,0,1"
+abbrev pub answered : List ℕ
+answered =
+    (51 ∷ 44 ∷ 48 ∷ 44 ∷ 48 ∷ 44 ∷ 48 ∷ 44 ∷ 48 ∷ 10 ∷ []) ++ (52 ∷ 44 ∷ 48 ∷ 44 ∷ 53 ∷ 44 ∷ 48 ∷ 44 ∷ 49 ∷ 10 ∷ [])
+
+-- the last line, "9,3", and what it prints as line n: "n,3,0,0,1"
+abbrev pub askedLast : List ℕ
+askedLast = 57 ∷ 44 ∷ 51 ∷ []
+
+abbrev pub answeredLast : ℕ → List ℕ
+answeredLast n = (48 + n) ∷ 44 ∷ 51 ∷ 44 ∷ 48 ∷ 44 ∷ 48 ∷ 44 ∷ 49 ∷ 10 ∷ []
+
+-- an empty line, and "9,000000000000000000003" with 21 digits; each prints as line n: "n,13,0,0,1"
+abbrev pub unreadable : List ℕ
+unreadable = 10 ∷ 57 ∷ 44 ∷ (replicate 20 48 ++ (51 ∷ 10 ∷ []))
+
+abbrev pub answered13 : ℕ → List ℕ
+answered13 n = (48 + n) ∷ 44 ∷ 49 ∷ 51 ∷ 44 ∷ 48 ∷ 44 ∷ 48 ∷ 44 ∷ 49 ∷ 10 ∷ []
+
+-- "Input .. a line each, gives exactly": with a last byte 10, without one, and with the two unreadable lines before the last
+abbrev pub Listing : Type 0
+Listing =
+    (output (asked ++ (askedLast ++ (10 ∷ []))) ≡ answered ++ answeredLast 5)
+    × (output (asked ++ askedLast) ≡ answered ++ answeredLast 5)
+    × (output (asked ++ (unreadable ++ askedLast)) ≡ answered ++ (answered13 5 ++ (answered13 6 ++ answeredLast 7)))
