@@ -1,4 +1,8 @@
-//! The library's `survey_step` for Rust programs: orders as an enum, the answer as a `Result`.
+//! A set for Rust programs: orders as an enum, the answer as a `Result`.
+
+#[allow(dead_code)]
+#[path = "../../include/survey.rs"]
+mod words;
 
 /// The words of a record, an order and an answer (crates/layout/specs/Layout.antt).
 const RECORD_WORDS: usize = 83;
@@ -6,31 +10,6 @@ const MASKS_AT: usize = 80;
 const CHANNELS_AT: usize = 81;
 const ORDER_WORDS: usize = 4;
 const ANSWER_WORDS: usize = 3;
-
-extern "C" {
-    fn survey_step(
-        order: *const u64,
-        order_length: usize,
-        record: *mut u64,
-        record_length: usize,
-        m0: *const u64,
-        m0_length: usize,
-        m1: *const u64,
-        m1_length: usize,
-        m2: *const u64,
-        m2_length: usize,
-        dealer: *const u64,
-        dealer_length: usize,
-        c0: *mut u64,
-        c0_length: usize,
-        c1: *mut u64,
-        c1_length: usize,
-        c2: *mut u64,
-        c2_length: usize,
-        answer: *mut u64,
-        answer_length: usize,
-    ) -> u64;
-}
 
 /// An order of 01; the listing needs two of the nine kinds.
 pub enum Order {
@@ -75,33 +54,15 @@ impl<'a> Set<'a> {
     pub fn step(&mut self, order: Order) -> Result<Answer, u64> {
         let order = order.words();
         let mut answer = [0; ANSWER_WORDS];
-        let [m0, m1, m2] = self.masks;
         let [c0, c1, c2] = &mut self.channels;
-        // Safety: each pointer and length is of a live slice, and no slice that is written overlaps another.
-        let refusal = unsafe {
-            survey_step(
-                order.as_ptr(),
-                order.len(),
-                self.record.as_mut_ptr(),
-                self.record.len(),
-                m0.as_ptr(),
-                m0.len(),
-                m1.as_ptr(),
-                m1.len(),
-                m2.as_ptr(),
-                m2.len(),
-                self.dealer.as_ptr(),
-                self.dealer.len(),
-                c0.as_mut_ptr(),
-                c0.len(),
-                c1.as_mut_ptr(),
-                c1.len(),
-                c2.as_mut_ptr(),
-                c2.len(),
-                answer.as_mut_ptr(),
-                answer.len(),
-            )
-        };
+        let refusal = words::step(
+            &order,
+            &mut self.record,
+            self.masks,
+            self.dealer,
+            [c0, c1, c2],
+            &mut answer,
+        );
         match refusal {
             0 => Ok(Answer { value: answer[1] }),
             _ => Err(refusal),

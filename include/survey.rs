@@ -1,0 +1,88 @@
+//! The library for Rust programs: every run of words is a slice. include/survey.h has the layout of the words.
+
+extern "C" {
+    fn survey_step(
+        order: *const u64,
+        order_length: usize,
+        record: *mut u64,
+        record_length: usize,
+        m0: *const u64,
+        m0_length: usize,
+        m1: *const u64,
+        m1_length: usize,
+        m2: *const u64,
+        m2_length: usize,
+        dealer: *const u64,
+        dealer_length: usize,
+        c0: *mut u64,
+        c0_length: usize,
+        c1: *mut u64,
+        c1_length: usize,
+        c2: *mut u64,
+        c2_length: usize,
+        answer: *mut u64,
+        answer_length: usize,
+    ) -> u64;
+
+    fn survey_prepare(
+        code: u64,
+        raw: *const u64,
+        raw_length: usize,
+        run: *mut u64,
+        run_length: usize,
+        answer: *mut u64,
+        answer_length: usize,
+    ) -> u64;
+}
+
+/// One order on a record, with three mask tapes, the dealer's tape and three channels.
+pub fn step(
+    order: &[u64],
+    record: &mut [u64],
+    [m0, m1, m2]: [&[u64]; 3],
+    dealer: &[u64],
+    [c0, c1, c2]: [&mut [u64]; 3],
+    answer: &mut [u64],
+) -> u64 {
+    // SAFETY: each pointer comes with its slice's length, and no slice that is written overlaps another.
+    unsafe {
+        survey_step(
+            order.as_ptr(),
+            order.len(),
+            record.as_mut_ptr(),
+            record.len(),
+            m0.as_ptr(),
+            m0.len(),
+            m1.as_ptr(),
+            m1.len(),
+            m2.as_ptr(),
+            m2.len(),
+            dealer.as_ptr(),
+            dealer.len(),
+            c0.as_mut_ptr(),
+            c0.len(),
+            c1.as_mut_ptr(),
+            c1.len(),
+            c2.as_mut_ptr(),
+            c2.len(),
+            answer.as_mut_ptr(),
+            answer.len(),
+        )
+    }
+}
+
+/// A run of items from raw words, for a ring code.
+pub fn prepare(code: u64, raw: &[u64], run: &mut [u64], answer: &mut [u64]) -> u64 {
+    // SAFETY: as above.
+    unsafe {
+        survey_prepare(
+            code,
+            raw.as_ptr(),
+            raw.len(),
+            run.as_mut_ptr(),
+            run.len(),
+            answer.as_mut_ptr(),
+            answer.len(),
+        )
+    }
+}
