@@ -1,7 +1,7 @@
 //! The job program: lines in, printed lines out.
 
 use crate::record::Record;
-use crate::step::{step, Order, Runs};
+use crate::step::{step, with_three, Order, Runs};
 use std::io::{Read, Result, Write};
 
 const LAST_LINE: u64 = 1_000_000;
@@ -95,7 +95,7 @@ impl Session {
                 return None;
             }
             (2, [9, x, ..]) => Some(Order::Open { x }),
-            (4, [kind, a, b, c]) => Order::with_three(kind, a, b, c),
+            (4, [kind, a, b, c]) => with_three(kind, a, b, c),
             _ => None,
         };
         Some(order.map_or((UNREADABLE, 0), |order| self.order(order)))

@@ -2,7 +2,7 @@
 
 use crate::record::{Record, Register};
 use crate::ring::Ring;
-use crate::step::{step, Order, Runs};
+use crate::step::{step, with_three, Order, Runs};
 
 const MALFORMED: u64 = 14;
 
@@ -39,7 +39,7 @@ fn write_record(record: &Record, words: &mut [u64; 83]) {
 fn read_order(words: &[u64]) -> Option<Order> {
     match *words {
         [9, x, 0, 0] => Some(Order::Open { x }),
-        [kind, a, b, c] => Order::with_three(kind, a, b, c),
+        [kind, a, b, c] => with_three(kind, a, b, c),
         _ => None,
     }
 }

@@ -4,51 +4,37 @@ use crate::circuits;
 use crate::gates::{Lent, Sharing};
 use crate::record::{Record, Register, LIMIT};
 use crate::ring::Ring;
+pub use reference::order::Order;
 
 /// 01, "Why an order is refused".
 pub type Refusal = u64;
 
-#[derive(Clone, Copy)]
-pub enum Order {
-    Deal { d: u64, e: u64, v: u64 },
-    Add { d: u64, x: u64, y: u64 },
-    Scale { d: u64, x: u64, c: u64 },
-    Multiply { d: u64, x: u64, y: u64 },
-    Decompose { d: u64, x: u64, l: u64 },
-    Convert { d: u64, x: u64, f: u64 },
-    Shift { d: u64, x: u64, s: u64 },
-    Compose { d: u64, x: u64, f: u64 },
-    Open { x: u64 },
+/// The kinds with three fields.
+pub fn with_three(kind: u64, a: u64, b: u64, c: u64) -> Option<Order> {
+    Some(match kind {
+        1 => Order::Deal { d: a, e: b, v: c },
+        2 => Order::Add { d: a, x: b, y: c },
+        3 => Order::Scale { d: a, x: b, c },
+        4 => Order::Multiply { d: a, x: b, y: c },
+        5 => Order::Decompose { d: a, x: b, l: c },
+        6 => Order::Convert { d: a, x: b, f: c },
+        7 => Order::Shift { d: a, x: b, s: c },
+        8 => Order::Compose { d: a, x: b, f: c },
+        _ => return None,
+    })
 }
 
-impl Order {
-    /// The kinds with three fields.
-    pub fn with_three(kind: u64, a: u64, b: u64, c: u64) -> Option<Order> {
-        Some(match kind {
-            1 => Order::Deal { d: a, e: b, v: c },
-            2 => Order::Add { d: a, x: b, y: c },
-            3 => Order::Scale { d: a, x: b, c },
-            4 => Order::Multiply { d: a, x: b, y: c },
-            5 => Order::Decompose { d: a, x: b, l: c },
-            6 => Order::Convert { d: a, x: b, f: c },
-            7 => Order::Shift { d: a, x: b, s: c },
-            8 => Order::Compose { d: a, x: b, f: c },
-            _ => return None,
-        })
-    }
-
-    /// The registers that it names, the destination first.
-    fn registers(self) -> [u64; 3] {
-        match self {
-            Order::Deal { d, .. } => [d; 3],
-            Order::Open { x } => [x; 3],
-            Order::Add { d, x, y } | Order::Multiply { d, x, y } => [d, x, y],
-            Order::Scale { d, x, .. }
-            | Order::Decompose { d, x, .. }
-            | Order::Convert { d, x, .. }
-            | Order::Shift { d, x, .. }
-            | Order::Compose { d, x, .. } => [d, x, x],
-        }
+/// The registers that it names, the destination first.
+fn registers(order: Order) -> [u64; 3] {
+    match order {
+        Order::Deal { d, .. } => [d; 3],
+        Order::Open { x } => [x; 3],
+        Order::Add { d, x, y } | Order::Multiply { d, x, y } => [d, x, y],
+        Order::Scale { d, x, .. }
+        | Order::Decompose { d, x, .. }
+        | Order::Convert { d, x, .. }
+        | Order::Shift { d, x, .. }
+        | Order::Compose { d, x, .. } => [d, x, x],
     }
 }
 
@@ -223,7 +209,7 @@ fn open(record: &mut Record, runs: Runs, x: Register) -> Result<u64, Refusal> {
 
 fn attempt(record: &mut Record, order: Order, runs: Runs) -> Result<Answer, Refusal> {
     refuse_if(!record.is_sound(), 1)?;
-    let registers = order.registers();
+    let registers = registers(order);
     refuse_if(registers.iter().any(|&n| n > 15), 2)?;
     let [d, x, y] = registers.map(|n| n as usize);
     let (x, y) = (record.registers[x], record.registers[y]);
