@@ -1,7 +1,7 @@
 // Reading a line byte by byte: its length is not bounded, and it may come in chunks.
 ghost use mathlib.Core.Path.{_≡_};
 ghost use mathlib.Core.List.{List, [], _∷_};
-ghost use Prim.Native.Nat.{ℕ, _+_};
+ghost use Prim.Native.Nat.{ℕ, _+_, _<_};
 ghost use lib.ListN.{drop, length};
 ghost use Rattle.line.specs.Lines.{commandOf, lineIn};
 ghost use Rattle.line.specs.Readings.{commaOn, commandIn, digitOn, read, readOn};
@@ -29,7 +29,7 @@ pub struct Taken {
     pub at: usize,
 }
 
-// The largest number of which ten times fits a word.
+// 2^64 is ten times this, and 6.
 const MOST_TENTHS: u64 = 1_844_674_407_370_955_161;
 
 impl Reading {
@@ -99,6 +99,7 @@ impl Reading {
 
     // One more digit, where the field stays within 20 digits and a word.
     fn digit(self, d: u64) -> Reading
+        requires { ⌜ d < 10 ⌝ }
         ensures { λ r. ⌜ r ≡ digitOn self d ⌝ }
     {
         if 19 < self.digits {
@@ -107,8 +108,7 @@ impl Reading {
         if MOST_TENTHS < self.value {
             return Reading::spoilt();
         }
-        let tens = self.value * 10;
-        if u64::MAX - tens < d {
+        if (self.value == MOST_TENTHS) & (5 < d) {
             return Reading::spoilt();
         }
         Reading {
@@ -117,29 +117,26 @@ impl Reading {
             second: self.second,
             third: self.third,
             digits: self.digits + 1,
-            value: tens + d,
+            value: self.value * 10 + d,
             seen: true,
             spoiled: self.spoiled,
         }
     }
 
-    // One more byte of the line.
+    // One more byte of the line; digits are tested first, since most bytes are.
     pub fn byte(self, b: u8) -> Reading
         ensures { λ r. ⌜ r ≡ readOn self (b ∷ []) ⌝ }
     {
         if self.spoiled {
             return Reading::spoilt();
         }
+        if (48 <= b) & (b <= 57) {
+            return self.digit((b - 48) as u64);
+        }
         if b == 44 {
             return self.comma();
         }
-        if b < 48 {
-            return Reading::spoilt();
-        }
-        if 57 < b {
-            return Reading::spoilt();
-        }
-        self.digit((b - 48) as u64)
+        Reading::spoilt()
     }
 
     // What the line says, once it has ended.
