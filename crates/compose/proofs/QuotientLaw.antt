@@ -75,14 +75,15 @@ unfolding after quotientGate
 first-states x k z is = rw (is p0, is p1, is p2)
 
 -- from the carry, the two bits of q
-pub quoted : {x k q : Sharing} {r₀ r₁ r₂ : ℕ} {T d : Place → List ℕ} {c₀ c₁ c₂ : List ℕ}
+pub quoted : {x k q : Sharing} {r₀ r₁ r₂ : ℕ} {t₀ t₁ t₂ c₀ c₁ c₂ d₀ d₁ d₂ : List ℕ}
     → Long 1 c₀ c₁ c₂
     → r₀ ≡ diff 4 0 (x .s0) → r₁ ≡ diff 4 0 (x .s1) → r₂ ≡ diff 4 0 (x .s2)
-    → Carries (three r₀ r₁ r₂) T (three c₀ c₁ c₂) k d
+    → Carries (three r₀ r₁ r₂) (three t₀ t₁ t₂) (three c₀ c₁ c₂) k (three d₀ d₁ d₂)
     → q .s0 ≡ quotientWith r₀ (k .s0) → q .s1 ≡ quotientWith r₁ (k .s1) → q .s2 ≡ quotientWith r₂ (k .s2)
-    → Quoted (parts x) T (three c₀ c₁ c₂) q d
-quoted {x} {k} {q} {r₀} {r₁} {r₂} {T} {d} {c₀} {c₁} {c₂} room e₀ e₁ e₂ found q₀ q₁ q₂ =
-    let h : Carries (negatives x) T (three c₀ c₁ c₂) k d = rw (e₀, e₁, e₂) at found in
+    → Quoted (parts x) (three t₀ t₁ t₂) (three c₀ c₁ c₂) q (three d₀ d₁ d₂)
+quoted {x} {k} {q} {r₀} {r₁} {r₂} {t₀} {t₁} {t₂} {c₀} {c₁} {c₂} {d₀} {d₁} {d₂} room e₀ e₁ e₂ found q₀ q₁ q₂ =
+    let T : Place → List ℕ = three t₀ t₁ t₂ in
+    let h : Carries (negatives x) T (three c₀ c₁ c₂) k (three d₀ d₁ d₂) = rw (e₀, e₁, e₂) at found in
     let z : Place → ℕ = carryWords (negatives x) (heads T) in
     record {
       carry = parts k;

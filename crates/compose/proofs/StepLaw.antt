@@ -1,11 +1,11 @@
 -- One gate on lent runs: what becomes of the words that it sends.
 use Prim.Native.Nat.{ℕ}
 use mathlib.Core.List.{List}
-use mathlib.Core.Path.{_≡_, ap, sym}
+use mathlib.Core.Path.{_≡_, _∙_, ap, sym}
 use Rattle.gate.specs.Gates.{gated}
 use Rattle.gate.specs.Places.{Place, Sent, parts, sharing, three}
 use Rattle.gate.specs.declared.sharing.Sharing.{Sharing}
-use Rattle.gate.proofs.PlaceLaw.{each}
+use Rattle.gate.proofs.PlaceLaw.{parts-sharing}
 use Rattle.circuit.specs.Circuits.{after, starts, words}
 use Rattle.circuit.specs.Compose.{joined}
 use Rattle.circuit.specs.Lent.{Left, Long}
@@ -15,19 +15,16 @@ use Rattle.circuit.proofs.LentLaw.{left-of, ran-gate, rooms}
 use Rattle.circuit.proofs.TurnLaw.{stored}
 use Rattle.compose.specs.Steps.{Joins}
 
--- each place's join of its own shares
-pub joins : {m : ℕ} (u v : Sharing) {t z : Sharing} {h₀ h₁ h₂ : ℕ} {c₀ c₁ c₂ d₀ d₁ d₂ : List ℕ}
-    → z ≡ sharing (gated m (parts u) (parts v) (parts t))
+-- each place's join of its own shares and word
+pub joins : {m : ℕ} (u v : Place → ℕ) {t z h : Sharing} {c₀ c₁ c₂ d₀ d₁ d₂ : List ℕ}
+    → z ≡ sharing (gated m u v (parts t))
     → Sent z c₀ c₁ c₂ d₀ d₁ d₂
-    → h₀ ≡ joined m (u .s0) (v .s0) (z .s0)
-    → h₁ ≡ joined m (u .s1) (v .s1) (z .s1)
-    → h₂ ≡ joined m (u .s2) (v .s2) (z .s2)
-    → Joins m (parts u) (parts v) (parts t) (three c₀ c₁ c₂) (record { s0 = h₀; s1 = h₁; s2 = h₂ }) (three d₀ d₁ d₂)
-joins {m} u v {t} {z} {h₀} {h₁} {h₂} is sent e₀ e₁ e₂ =
+    → ((i : Place) → parts h i ≡ joined m (u i) (v i) (parts z i))
+    → Joins m u v (parts t) (three c₀ c₁ c₂) h (three d₀ d₁ d₂)
+joins {m} u v {t} is sent shares =
     record {
-      is = each (λ i. three h₀ h₁ h₂ i ≡ joined m (parts u i) (parts v i) (gated m (parts u) (parts v) (parts t) i))
-          (rw is at e₀) (rw is at e₁) (rw is at e₂);
-      stored = stored (gated m (parts u) (parts v) (parts t)) is sent;
+      is = λ i. rw (ap parts is ∙ parts-sharing (gated m u v (parts t))) at (shares i);
+      stored = stored (gated m u v (parts t)) is sent;
     }
 
 -- order 4 is its one gate

@@ -76,8 +76,8 @@ more-summed m from k weight {w} {z} {z′} {c} {t₀} {t₁} {t₂} {d₀} {d₁
     rw add-one (summed-three (length-compose wordBit m from k) a (rw weighs at (b now kept)))
 
 -- all bits are order 8
-pub composed : (f l : ℕ) {w z : Sharing} {T c d : Place → List ℕ}
-    → Summed (composeGates wordBit (modulus f) 0 l) (tabled (λ i. summingStart (parts w i))) T c (parts z) d
-    → Left (composition f l) (parts w) (parts w) T c z d
+pub composed : (f l : ℕ) {w z : Sharing} {t₀ t₁ t₂ c₀ c₁ c₂ d₀ d₁ d₂ : List ℕ}
+    → Summed (composeGates wordBit (modulus f) 0 l) (tabled (λ i. summingStart (parts w i))) (three t₀ t₁ t₂) (three c₀ c₁ c₂) (parts z) (three d₀ d₁ d₂)
+    → Left (composition f l) (parts w) (parts w) (three t₀ t₁ t₂) (three c₀ c₁ c₂) z (three d₀ d₁ d₂)
 unfolding composition
 composed f l h = left-of {C = composition f l} (record { states = refl; channels = h .channels }) (rw (h .sums p0, h .sums p1, h .sums p2))

@@ -11,7 +11,8 @@ ghost use Rattle.compose.specs.Sums.{JoinsBit, Summed};
 use circuit::items_at;
 use circuit::zeros;
 use gate::Sharing;
-use gate::ring_gate;
+use gate::ring_gate_by_bit;
+use gate::ring_gate_of_bits;
 use ring::Ring;
 use ring::bit;
 
@@ -26,24 +27,14 @@ fn join_share(r: Ring, u: u64, v: u64, uv: u64) -> u64
     r.sub(r.add(u, v), r.add(uv, uv))
 }
 
-// The shares of u XOR v, both of bits, by one gate.
-fn join(
-    r: Ring,
-    u: Sharing,
-    v: Sharing,
-    t: Sharing,
-    c0: &mut [u64],
-    c1: &mut [u64],
-    c2: &mut [u64],
-) -> Sharing
+// u + v - 2uv at each place, z being the words of the gate.
+fn join_shares(r: Ring, u: Sharing, v: Sharing, z: Sharing) -> Sharing
     requires left { ⌜ InRange (modulusOf r) u ⌝ }
     requires right { ⌜ InRange (modulusOf r) v ⌝ }
-    requires items { ⌜ InRange (modulusOf r) t ⌝ }
-    requires room { ⌜ Long 1 (now c0) (now c1) (now c2) ⌝ }
-    ensures is { λ h. ⌜ Joins (modulusOf r) (parts u) (parts v) (parts t) (three (now (c0 .entry)) (now (c1 .entry)) (now (c2 .entry))) h (three (now (c0 .exit)) (now (c1 .exit)) (now (c2 .exit))) ⌝ }
+    requires product { ⌜ InRange (modulusOf r) z ⌝ }
+    ensures is { λ h. ⌜ ((i : Place) → parts h i ≡ joined (modulusOf r) (parts u i) (parts v i) (parts z i)) ⌝ }
     ensures below { λ h. ⌜ InRange (modulusOf r) h ⌝ }
 {
-    let z = ring_gate(r, u, v, t, c0, c1, c2);
     let s0 = join_share(r, u.s0, v.s0, z.s0);
     let s1 = join_share(r, u.s1, v.s1, z.s1);
     let s2 = join_share(r, u.s2, v.s2, z.s2);
@@ -68,17 +59,18 @@ fn join_first(
 {
     let b0 = bit(w.s0, j);
     let b1 = bit(w.s1, j);
-    let x = Sharing {
+    let z = ring_gate_of_bits(r, b0, b1, t, c0, c1, c2);
+    let u = Sharing {
         s0: b0,
         s1: 0,
         s2: 0,
     };
-    let y = Sharing {
+    let v = Sharing {
         s0: 0,
         s1: b1,
         s2: 0,
     };
-    join(r, x, y, t, c0, c1, c2)
+    join_shares(r, u, v, z)
 }
 
 // What these give with sub-share 2.
@@ -100,12 +92,13 @@ fn join_last(
     ensures below { λ h. ⌜ InRange (modulusOf r) h ⌝ }
 {
     let b2 = bit(w.s2, j);
-    let y = Sharing {
+    let z = ring_gate_by_bit(r, half, b2, t, c0, c1, c2);
+    let v = Sharing {
         s0: 0,
         s1: 0,
         s2: b2,
     };
-    join(r, half, y, t, c0, c1, c2)
+    join_shares(r, half, v, z)
 }
 
 // The ring shares of bit j of w: sub-share 0 with 1, then with 2.

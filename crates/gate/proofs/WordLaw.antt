@@ -1,14 +1,21 @@
 -- The words as the code works them out are the definition's.
-use Prim.Native.Nat.{ℕ, _+_, _*_, _%_, _<_}
-use mathlib.Core.Path.{_≡_, _∙_, refl}
+use Prim.Native.Nat.{ℕ, _+_, _*_, _%_, _<_, _≤_}
+use mathlib.Core.Path.{_≡_, _∙_, refl, sym}
+use native.Mathlib.Nat.{le-refl, mul-le-mul}
 use native.Mathlib.Omega.{arith}
 use lib.Bits.{and-lt, bitAnd, bitXor, xor-lt}
 use Rattle.ring.specs.Modular.{Cong, diff}
 use Rattle.ring.proofs.BitLaw.{and-bit, xor-bit}
-use Rattle.ring.proofs.CongLaw.{cong-add, cong-mod, cong-mul, cong-of-eq, cong-refl, cong-trans}
+use Rattle.ring.proofs.CongLaw.{cong-add, cong-below, cong-mod, cong-mul, cong-of-eq, cong-refl, cong-trans}
 use Rattle.gate.specs.Gates.{crossed, gated, mask, word}
-use Rattle.gate.specs.Places.{InRange, PairBelow, held, p0, p1, p2, pair, parts, sharing}
+use Rattle.gate.specs.Places.{InRange, PairBelow, held, p0, p1, p2, pair, parts, sharing, three}
 use Rattle.gate.specs.declared.sharing.Sharing.{Sharing}
+
+-- a word from a number n that stands for its products
+word-from : (m x xf y yf t tf n : ℕ) {d : ℕ}
+    → Cong m n (x * y + x * yf + xf * y) → d ≡ diff m t tf → (n + d) % m ≡ word m (pair x xf) (pair y yf) (pair t tf)
+unfolding word crossed mask
+word-from m x xf y yf t tf n h e = cong-add h (cong-of-eq e) .same
 
 -- in a ring: two products, the first with the sum of y's pair
 pub ring-word-is : (p x xf y yf t tf sum both cross c d : ℕ)
@@ -18,7 +25,6 @@ pub ring-word-is : (p x xf y yf t tf sum both cross c d : ℕ)
     → c ≡ (both + cross) % p
     → d ≡ diff p t tf
     → (c + d) % p ≡ word p (pair x xf) (pair y yf) (pair t tf)
-unfolding word crossed mask
 ring-word-is p x xf y yf t tf sum both cross c d hs hb hx hc hd =
     let s-cong : Cong p (x * sum) (x * (y + yf))
     = cong-mul (cong-refl x) (cong-trans (cong-of-eq hs) (cong-mod p (y + yf))) in
@@ -27,7 +33,7 @@ ring-word-is p x xf y yf t tf sum both cross c d hs hb hx hc hd =
     let c-cong : Cong p c (x * (y + yf) + xf * y)
     = cong-trans (cong-of-eq hc) (cong-trans (cong-mod p (both + cross)) (cong-add b-cong x-cong)) in
     let spread : x * (y + yf) + xf * y ≡ x * y + x * yf + xf * y = omega arith in
-    cong-add (cong-trans c-cong (cong-of-eq spread)) (cong-of-eq hd) .same
+    word-from p x xf y yf t tf c (cong-trans c-cong (cong-of-eq spread)) hd
 
 -- modulo 2 adding is subtracting
 masked-bit : (c t tf d z : ℕ) → d ≡ (c + t) % 2 → z ≡ (d + tf) % 2 → z ≡ (c + diff 2 t tf) % 2
@@ -84,3 +90,48 @@ pub words-hold : (m : ℕ) (x y t : Sharing) {z₀ z₁ z₂ : ℕ}
     → (_≡_ {A = Sharing} (record { s0 = z₀; s1 = z₁; s2 = z₂ }) (sharing (gated m (parts x) (parts y) (parts t))))
     × InRange m (record { s0 = z₀; s1 = z₁; s2 = z₂ })
 words-hold m x y t h₀ h₁ h₂ = (words-are m x y t (h₀ .0) (h₁ .0) (h₂ .0), record { zero = h₀ .1; one = h₁ .1; two = h₂ .1 })
+
+-- where the products are 0, the word is the mask
+mask-alone : (m x xf y yf t tf : ℕ) {z : ℕ}
+    → x * y + x * yf + xf * y ≡ 0 → (z ≡ diff m t tf) × (z < m) → (z ≡ word m (pair x xf) (pair y yf) (pair t tf)) × (z < m)
+mask-alone m x xf y yf t tf {z} none (is, below) =
+    let same : z ≡ 0 + z = omega arith in
+    (cong-below below (cong-of-eq same) ∙ word-from m x xf y yf t tf 0 (cong-of-eq (sym none)) is, below)
+
+-- of a bit at place 0 with a bit at place 1
+pub words-of-bits : (m b₀ b₁ : ℕ) (t : Sharing) {d₀ z₀ z₁ z₂ : ℕ}
+    → d₀ ≡ diff m (t .s0) (t .s1)
+    → (z₀ ≡ (b₀ * b₁ + d₀) % m) × (z₀ < m)
+    → (z₁ ≡ diff m (t .s1) (t .s2)) × (z₁ < m)
+    → (z₂ ≡ diff m (t .s2) (t .s0)) × (z₂ < m)
+    → (_≡_ {A = Sharing} (record { s0 = z₀; s1 = z₁; s2 = z₂ }) (sharing (gated m (three b₀ 0 0) (three 0 b₁ 0) (parts t))))
+    × InRange m (record { s0 = z₀; s1 = z₁; s2 = z₂ })
+words-of-bits m b₀ b₁ t e₀ (is₀, lt₀) h₁ h₂ =
+    let products : b₀ * b₁ ≡ b₀ * 0 + b₀ * b₁ + 0 * 0 = omega arith in
+    words-hold m (record { s0 = b₀; s1 = 0; s2 = 0 }) (record { s0 = 0; s1 = b₁; s2 = 0 }) t
+    (is₀ ∙ word-from m b₀ 0 0 b₁ (t .s0) (t .s1) (b₀ * b₁) (cong-of-eq products) e₀, lt₀)
+    (mask-alone m 0 0 b₁ 0 (t .s1) (t .s2) (omega arith) h₁)
+    (mask-alone m 0 b₀ 0 0 (t .s2) (t .s0) (omega arith) h₂)
+
+-- of x with a bit at place 2
+pub words-by-bit : (m : ℕ) (x : Sharing) (b₂ : ℕ) (t : Sharing) {sum d₁ d₂ z₀ z₁ z₂ : ℕ}
+    → sum ≡ (x .s2 + x .s0) % m
+    → d₁ ≡ diff m (t .s1) (t .s2)
+    → d₂ ≡ diff m (t .s2) (t .s0)
+    → (z₀ ≡ diff m (t .s0) (t .s1)) × (z₀ < m)
+    → (z₁ ≡ (x .s1 * b₂ + d₁) % m) × (z₁ < m)
+    → (z₂ ≡ (sum * b₂ + d₂) % m) × (z₂ < m)
+    → (_≡_ {A = Sharing} (record { s0 = z₀; s1 = z₁; s2 = z₂ }) (sharing (gated m (parts x) (three 0 0 b₂) (parts t))))
+    × InRange m (record { s0 = z₀; s1 = z₁; s2 = z₂ })
+words-by-bit m x b₂ t {sum} of-pair e₁ e₂ h₀ (is₁, lt₁) (is₂, lt₂) =
+    let one : x .s1 * b₂ ≡ x .s1 * 0 + x .s1 * b₂ + x .s2 * 0 = omega arith in
+    let two : (x .s2 + x .s0) * b₂ ≡ x .s2 * b₂ + x .s2 * 0 + x .s0 * b₂ = omega arith in
+    let sums : Cong m sum (x .s2 + x .s0) = cong-trans (cong-of-eq of-pair) (cong-mod m (x .s2 + x .s0)) in
+    words-hold m x (record { s0 = 0; s1 = 0; s2 = b₂ }) t
+    (mask-alone m (x .s0) (x .s1) 0 0 (t .s0) (t .s1) (omega arith) h₀)
+    (is₁ ∙ word-from m (x .s1) (x .s2) 0 b₂ (t .s1) (t .s2) (x .s1 * b₂) (cong-of-eq one) e₁, lt₁)
+    (is₂ ∙ word-from m (x .s2) (x .s0) b₂ 0 (t .s2) (t .s0) (sum * b₂) (cong-trans (cong-mul sums (cong-refl b₂)) (cong-of-eq two)) e₂, lt₂)
+
+-- a bit times a number below m is below m
+pub bit-times-lt : {m x b : ℕ} → x < m → b < 2 → x * b < m
+bit-times-lt {x = x} {b = b} h bit = let few : b ≤ 1 = omega arith in omega (arith, mul-le-mul (le-refl x) few)

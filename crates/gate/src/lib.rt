@@ -5,5 +5,7 @@ mod words;
 
 pub use gates::bit_gate;
 pub use gates::ring_gate;
+pub use gates::ring_gate_by_bit;
+pub use gates::ring_gate_of_bits;
 pub use gates::send;
 pub use sharing::Sharing;

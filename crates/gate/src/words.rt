@@ -3,7 +3,7 @@ ghost use mathlib.Core.Path.{_≡_};
 ghost use Prim.Native.Nat.{_+_, _*_, _<_, _≤_};
 ghost use Rattle.ring.specs.Rings.{modulus, modulusOf};
 ghost use Rattle.gate.specs.Gates.{gated, word};
-ghost use Rattle.gate.specs.Places.{InRange, PairBelow, pair, parts, sharing};
+ghost use Rattle.gate.specs.Places.{InRange, PairBelow, pair, parts, sharing, three};
 use crate::sharing::Sharing;
 use ring::Ring;
 use ring::add_mod;
@@ -65,5 +65,38 @@ pub fn bit_words(x: Sharing, y: Sharing, t: Sharing) -> Sharing
         s0: bit_word(x.s0, x.s1, y.s0, y.s1, t.s0, t.s1),
         s1: bit_word(x.s1, x.s2, y.s1, y.s2, t.s1, t.s2),
         s2: bit_word(x.s2, x.s0, y.s2, y.s0, t.s2, t.s0),
+    }
+}
+
+// z_0, z_1 and z_2 in a ring, of a bit at place 0 with a bit at place 1.
+pub fn words_of_bits(r: Ring, b0: u64, b1: u64, t: Sharing) -> Sharing
+    requires left { ⌜ b0 < 2 ⌝ }
+    requires right { ⌜ b1 < 2 ⌝ }
+    requires items { ⌜ InRange (modulusOf r) t ⌝ }
+    ensures is { λ z. ⌜ z ≡ sharing (gated (modulusOf r) (three b0 0 0) (three 0 b1 0) (parts t)) ⌝ }
+    ensures below { λ z. ⌜ InRange (modulusOf r) z ⌝ }
+{
+    let p = r.modulus();
+    Sharing {
+        s0: add_mod(p, b0 * b1, sub_mod(p, t.s0, t.s1)),
+        s1: sub_mod(p, t.s1, t.s2),
+        s2: sub_mod(p, t.s2, t.s0),
+    }
+}
+
+// z_0, z_1 and z_2 in a ring, of x with a bit at place 2.
+pub fn words_by_bit(r: Ring, x: Sharing, b2: u64, t: Sharing) -> Sharing
+    requires left { ⌜ InRange (modulusOf r) x ⌝ }
+    requires right { ⌜ b2 < 2 ⌝ }
+    requires items { ⌜ InRange (modulusOf r) t ⌝ }
+    ensures is { λ z. ⌜ z ≡ sharing (gated (modulusOf r) (parts x) (three 0 0 b2) (parts t)) ⌝ }
+    ensures below { λ z. ⌜ InRange (modulusOf r) z ⌝ }
+{
+    let p = r.modulus();
+    let sum = add_mod(p, x.s2, x.s0);
+    Sharing {
+        s0: sub_mod(p, t.s0, t.s1),
+        s1: add_mod(p, x.s1 * b2, sub_mod(p, t.s1, t.s2)),
+        s2: add_mod(p, sum * b2, sub_mod(p, t.s2, t.s0)),
     }
 }
