@@ -18,18 +18,20 @@ use Rattle.circuit.proofs.LentLaw.{part-is}
 use Rattle.circuit.proofs.RunLaw.{length-sent}
 use Rattle.compose.proofs.RunsLaw.{partsFrom, putBack}
 use Rattle.machine.specs.Checks.{anyBad, firstMet, gateChecks, uneven}
-use Rattle.machine.specs.Registers.{publicOf, registerOf}
-use Rattle.machine.specs.Step as defined
-use Rattle.machine.specs.Step.{refused, stored, written}
+use Rattle.machine.specs.Registers.{registerOf}
+use Rattle.machine.specs.Step.{written}
 use Rattle.machine.specs.declared.answers.Refusal.{Refusal}
+use Rattle.machine.specs.declared.answers.Refusal.the-variants.{BadItem}
 use Rattle.machine.specs.declared.registers.Machine.{Machine}
 use Rattle.machine.specs.declared.registers.Register.{Register}
-use Rattle.order.specs.Answers.{numberOf, reported, verdictOf}
-use Rattle.order.specs.Attempts.{attempted, lengthVerdict, lengthsOf, masksLeft, ran, tried}
+use Rattle.order.specs.Answers.{verdictOf}
+use Rattle.order.specs.Attempts.{At, attempted, lengthVerdict, lengthsOf, masksLeft, positions, ran, tried}
+use Rattle.order.specs.Changes.{Changes}
 use Rattle.order.specs.Tasks.{Costs, Fit, Ready, Seated, circuitOf, kindLeft, otherOf, sourceOf}
-use Rattle.order.specs.declared.answers.Outcome.{Outcome}
 use Rattle.order.specs.declared.answers.Verdict.{Verdict}
 use Rattle.order.specs.declared.answers.Verdict.the-variants.{Because, Fine}
+use Rattle.order.specs.declared.changes.Change.{Change}
+use Rattle.order.specs.declared.changes.Change.the-variants.{Refused, Stored}
 use Rattle.order.specs.declared.tasks.Cost.{Cost}
 use Rattle.order.specs.declared.tasks.Prepared.{Prepared}
 use Rattle.order.specs.declared.tasks.Prepared.the-variants.{Gates, Local}
@@ -56,19 +58,19 @@ even a b c e =
     )
 
 -- no check of lengths refuses: enough is left on each run
-pub long-enough : (m : Machine) (n : ℕ) (t₀ t₁ t₂ c₀ c₁ c₂ : List ℕ) {v : Verdict}
-    → verdictOf v ≡ firstMet (gateChecks n (publicOf m) (lengthsOf (three t₀ t₁ t₂) (three c₀ c₁ c₂)))
+pub long-enough : (at ch n : ℕ) (t₀ t₁ t₂ c₀ c₁ c₂ : List ℕ) {v : Verdict}
+    → verdictOf v ≡ firstMet (gateChecks n (positions at ch) (lengthsOf (three t₀ t₁ t₂) (three c₀ c₁ c₂)))
     → v ≡ Fine
-    → Long (m .«masks_at» + n) t₀ t₁ t₂ × Long (m .«channels_at» + n) c₀ c₁ c₂
-long-enough m n t₀ t₁ t₂ c₀ c₁ c₂ verdict is =
+    → Long (at + n) t₀ t₁ t₂ × Long (ch + n) c₀ c₁ c₂
+long-enough at ch n t₀ t₁ t₂ c₀ c₁ c₂ verdict is =
     let fine = sym verdict ∙ ap verdictOf is in
     let both = unmet _ 8 _ refl fine in
     let later = unmet-rest _ 8 _ refl fine in
     let last = unmet-rest _ 9 _ refl later in
     let masks = even (length t₀) (length t₁) (length t₂) (one-false _ _ both) in
     let channels = even (length c₀) (length c₁) (length c₂) (other-false (uneven (three (length t₀) (length t₁) (length t₂))) _ both) in
-    let enough = ltb-false (length t₀) (m .«masks_at» + n) (unmet _ 9 _ refl later) in
-    let room = ltb-false (length c₀) (m .«channels_at» + n) (unmet _ 11 _ refl last) in (
+    let enough = ltb-false (length t₀) (at + n) (unmet _ 9 _ refl later) in
+    let room = ltb-false (length c₀) (ch + n) (unmet _ 11 _ refl last) in (
       record { zero = omega arith; one = omega arith; two = omega arith },
       record { zero = omega arith; one = omega arith; two = omega arith },
     )
@@ -84,57 +86,55 @@ put-written k n u ws h counted is =
     (append-nil h ∙ is ∙ ap₂ (λ (j : ℕ) (l : List ℕ). ws ++ drop j l) (sym counted) (part-is k u)
     ∙ ap (λ (l : List ℕ). ws ++ l) (drop-drop (length ws) k u))
 
-module _ (t : Task) (d : ℕ) (m : Machine) {k : Cost} (cost : Costs t k) where
+module _ (t : Task) (d : ℕ) {m : Machine} {at ch : ℕ} {k : Cost} (cost : Costs t k) (of : At m at ch) where
   -- checks of lengths that refuse, or do not
-  module _ (T c : Place → List ℕ) {v : Verdict} (verdict : verdictOf v ≡ firstMet (gateChecks (k .bits + k .ring) (publicOf m) (lengthsOf T c))) where
+  module _ (T c : Place → List ℕ) {v : Verdict} (verdict : verdictOf v ≡ firstMet (gateChecks (k .bits + k .ring) (positions at ch) (lengthsOf T c))) where
     is-verdict : {u : Verdict} → v ≡ u → lengthVerdict t m T c ≡ verdictOf u
-    is-verdict e = rw (gates-cost cost) (sym verdict ∙ ap verdictOf e)
+    is-verdict e = rw (gates-cost cost) (sym (rw (of .masks, of .channels) at verdict) ∙ ap verdictOf e)
 
-    pub short : {w : Refusal} {a : defined.Outcome} → v ≡ Because w → a ≡ refused (numberOf w) m c → a ≡ attempted (Gates t) d m T c
+    pub short : {w : Refusal} → v ≡ Because w → Changes m (Refused w) c (attempted (Gates t) d m T c)
     unfolding attempted
-    short {w} e is = rw (is-verdict e, numbered w) is
+    short {w} e = record { fits = tt; is = rw (is-verdict e, numbered w) }
 
-    pub enough : {a : defined.Outcome} → v ≡ Fine → a ≡ tried t d m T c → a ≡ attempted (Gates t) d m T c
+    pub enough : {r : Change} {l : Place → List ℕ} → v ≡ Fine → Changes m r l (tried t d m T c) → Changes m r l (attempted (Gates t) d m T c)
     unfolding attempted
-    enough e is = rw (is-verdict e) is
+    enough e done = rw (is-verdict e) done
 
   module _ (t₀ t₁ t₂ c₀ c₁ c₂ : List ℕ) {bad : Bool}
-      (found : bad ≡ anyBad (replicate (k .bits) 2 ++ replicate (k .ring) (k .modulus)) (partsFrom (m .«masks_at») t₀ t₁ t₂)) where
-    is-left : partsFrom (m .«masks_at») t₀ t₁ t₂ ≡ masksLeft m (three t₀ t₁ t₂)
-    is-left = rw (part-is (m .«masks_at») t₀, part-is (m .«masks_at») t₁, part-is (m .«masks_at») t₂)
+      (found : bad ≡ anyBad (replicate (k .bits) 2 ++ replicate (k .ring) (k .modulus)) (partsFrom at t₀ t₁ t₂)) where
+    is-left : partsFrom at t₀ t₁ t₂ ≡ masksLeft m (three t₀ t₁ t₂)
+    is-left = rw (part-is at t₀, part-is at t₁, part-is at t₂, of .masks)
 
     is-bad : anyBad (moduli (circuitOf t .gates)) (masksLeft m (three t₀ t₁ t₂)) ≡ bad
     is-bad = ap₂ anyBad (cost .moduli) (sym is-left) ∙ sym found
 
     -- an item out of range
-    pub bad-tried : {a : defined.Outcome} → bad ≡ true
-        → a ≡ refused 10 m (three c₀ c₁ c₂)
-        → a ≡ tried t d m (three t₀ t₁ t₂) (three c₀ c₁ c₂)
+    pub bad-tried : bad ≡ true → Changes m (Refused BadItem) (three c₀ c₁ c₂) (tried t d m (three t₀ t₁ t₂) (three c₀ c₁ c₂))
     unfolding tried
-    bad-tried e is = rw (is-bad ∙ e) is
+    bad-tried e = record { fits = tt; is = rw (is-bad ∙ e) }
 
     -- none, and what the gates leave
-    pub gates-tried : {z : Sharing} {h₀ h₁ h₂ : List ℕ} {r : Register} (o : Outcome) → bad ≡ false
-        → Left (circuitOf t) (parts (sourceOf t)) (parts (otherOf t)) (partsFrom (m .«masks_at») t₀ t₁ t₂)
-        (partsFrom (m .«channels_at») c₀ c₁ c₂) z (three h₀ h₁ h₂)
+    pub gates-tried : {z : Sharing} {h₀ h₁ h₂ : List ℕ} {r : Register} → bad ≡ false → Seated m d
+        → Left (circuitOf t) (parts (sourceOf t)) (parts (otherOf t)) (partsFrom at t₀ t₁ t₂) (partsFrom ch c₀ c₁ c₂) z (three h₀ h₁ h₂)
         → r ≡ registerOf (kindLeft t) z
-        → ((c : Place → List ℕ) → reported o c ≡ stored d r (k .bits + k .ring) 0 m c)
-        → reported o (putBack (m .«channels_at») c₀ c₁ c₂ h₀ h₁ h₂) ≡ tried t d m (three t₀ t₁ t₂) (three c₀ c₁ c₂)
+        → Changes m (Stored d r (k .bits + k .ring) 0) (putBack ch c₀ c₁ c₂ h₀ h₁ h₂) (tried t d m (three t₀ t₁ t₂) (three c₀ c₁ c₂))
     unfolding tried ran channelled
-    gates-tried {z} {h₀} {h₁} {h₂} {r} o e left kept is =
+    gates-tried {z} {h₀} {h₁} {h₂} {r} e seat left kept =
         let C = circuitOf t in
         let X = parts (sourceOf t) in
         let Y = parts (otherOf t) in
-        let P = partsFrom (m .«masks_at») t₀ t₁ t₂ in
-        let at : ℕ = m .«channels_at» in
+        let P = partsFrom at t₀ t₁ t₂ in
         let shares : r ≡ registerOf (kindLeft t) (sharing (result C X Y (masksLeft m (three t₀ t₁ t₂))))
         = kept ∙ ap (λ (q : Place → ℕ). registerOf (kindLeft t) (sharing q)) (left .is ∙ ap (λ (T : Place → List ℕ). result C X Y T) is-left) in
-        let put : (i : Place) (u h : List ℕ) → h ≡ channelled C X Y P i ++ drop (gatesOf C) (midOf at (length u - at) u)
-        → putMid at (length u - at) u h ≡ written at (channelled C X Y (masksLeft m (three t₀ t₁ t₂)) i) u
+        let put : (i : Place) (u h : List ℕ) → h ≡ channelled C X Y P i ++ drop (gatesOf C) (midOf ch (length u - ch) u)
+        → putMid ch (length u - ch) u h ≡ written (m .«channels_at») (channelled C X Y (masksLeft m (three t₀ t₁ t₂)) i) u
         = λ i u h head.
-        put-written at (gatesOf C) u (channelled C X Y P i) h (length-sent (C .gates) (starts C X Y) P i) head
-        ∙ ap (λ (T : Place → List ℕ). written at (channelled C X Y T i) u) is-left in
-        let same : putBack at c₀ c₁ c₂ h₀ h₁ h₂
-        ≡ tabled (λ i. written at (channelled C X Y (masksLeft m (three t₀ t₁ t₂)) i) (three c₀ c₁ c₂ i))
+        put-written ch (gatesOf C) u (channelled C X Y P i) h (length-sent (C .gates) (starts C X Y) P i) head
+        ∙ ap₂ (λ (n : ℕ) (T : Place → List ℕ). written n (channelled C X Y T i) u) (of .channels) is-left in
+        let same : putBack ch c₀ c₁ c₂ h₀ h₁ h₂
+        ≡ tabled (λ i. written (m .«channels_at») (channelled C X Y (masksLeft m (three t₀ t₁ t₂)) i) (three c₀ c₁ c₂ i))
         = rw (put p0 c₀ h₀ (left .channels p0), put p1 c₁ h₁ (left .channels p1), put p2 c₂ h₂ (left .channels p2)) in
-        rw (is-bad ∙ e) (is (putBack at c₀ c₁ c₂ h₀ h₁ h₂) ∙ rw (shares, sym (gates-cost cost), same))
+        record {
+          fits = (seat, cost .few, omega arith);
+          is = rw (is-bad ∙ e) (rw (shares, sym (gates-cost cost), same));
+        }

@@ -2,7 +2,8 @@
 use Prim.Native.Nat.{ℕ, _+_, _<_, _≤_}
 use mathlib.Core.Bool.{Bool, false, not, true, _||_}
 use mathlib.Core.List.{List, [], _∷_}
-use mathlib.Core.Path.{_≡_, refl, ap, ap₂, sym, _∙_}
+use mathlib.Core.Path.{_≡_, refl, ap, sym, _∙_}
+use native.Mathlib.Omega.{arith}
 use borrow.Author.Tests.{le-leb, le-ltb, leb-false, lt-leb, lt-ltb}
 use lib.Dec.{leb, ltb}
 use lib.ListN.{List·getD-eq-default, drop, getD, length}
@@ -14,8 +15,8 @@ use Rattle.ring.specs.declared.rings.OfWidth.the-variants.{Named, NoRing}
 use Rattle.ring.specs.declared.rings.Ring.{Ring}
 use Rattle.gate.specs.Places.{Place}
 use Rattle.machine.specs.Checks.{Tapes, check, firstMet, noRing, publicChecks}
-use Rattle.machine.specs.Registers.{million, registerOf, sound}
-use Rattle.machine.specs.Step.{Outcome, checks, dealt, dealtShares, step, stored}
+use Rattle.machine.specs.Registers.{million, registerOf}
+use Rattle.machine.specs.Step.{checks, dealt, dealtShares, step, stored}
 use Rattle.machine.specs.Work.{numberKind}
 use Rattle.machine.specs.declared.answers.Answer.{Answer}
 use Rattle.machine.specs.declared.answers.Answer.the-variants.{Refused}
@@ -24,12 +25,13 @@ use Rattle.machine.specs.declared.orders.Order.the-variants.{Deal}
 use Rattle.machine.specs.declared.registers.Machine.{Machine}
 use Rattle.machine.specs.declared.registers.Register.{Register}
 use Rattle.machine.specs.declared.registers.Register.the-variants.{Empty, Number}
-use Rattle.order.specs.Answers.{refusalOf, reported}
-use Rattle.order.specs.Tasks.{Seated}
+use Rattle.order.specs.Answers.{refusalOf}
+use Rattle.order.specs.Changes.{Changes}
+use Rattle.order.specs.declared.changes.Change.the-variants as change
 use Rattle.order.proofs.KindlyLaw.{unmet, unmet-rest}
 use Rattle.order.proofs.PrepareLaw.{width-named}
 use Rattle.order.proofs.SoundLaw.{one-false, other-false}
-use Rattle.exchange.specs.Exchanges.{dealChecks, dealtRegister, numberChecks}
+use Rattle.exchange.specs.Exchanges.{Dealing, dealChecks, dealtRegister, numberChecks}
 use Rattle.exchange.proofs.CheckLaw.{begun, last-passed, met, others, passed, step-performed, step-refused, there}
 
 -- past the end of a tape
@@ -46,13 +48,13 @@ module _ (p v n at r₀ r₁ : ℕ) where
     tape-long h = passed 7 _ (lt-leb p v inside) (met 8 _ (lt-ltb million n h))
 
     module _ (held : n ≤ million) where
-      pub tape-short : n < at + 2 → 9 ≡ firstMet (numberChecks p v n at r₀ r₁)
-      tape-short h = passed 7 _ (lt-leb p v inside) (passed 8 _ (le-ltb million n held) (met 9 _ (lt-ltb n (at + 2) h)))
+      pub tape-short : ltb n (at + 2) ≡ true → 9 ≡ firstMet (numberChecks p v n at r₀ r₁)
+      tape-short h = passed 7 _ (lt-leb p v inside) (passed 8 _ (le-ltb million n held) (met 9 _ h))
 
-      module _ (enough : at + 2 ≤ n) where
+      module _ (enough : ltb n (at + 2) ≡ false) where
         last : {w : ℕ} → w ≡ firstMet (check (leb p r₀ || leb p r₁) 10 ∷ []) → w ≡ firstMet (numberChecks p v n at r₀ r₁)
         last e =
-            passed 7 _ (lt-leb p v inside) (passed 8 _ (le-ltb million n held) (passed 9 _ (le-ltb n (at + 2) enough) e))
+            passed 7 _ (lt-leb p v inside) (passed 8 _ (le-ltb million n held) (passed 9 _ enough e))
 
         pub item-bad : leb p r₀ || leb p r₁ ≡ true → 10 ≡ firstMet (numberChecks p v n at r₀ r₁)
         item-bad h = last (met 10 [] h)
@@ -61,35 +63,32 @@ module _ (p v n at r₀ r₁ : ℕ) where
         all-fit h = last (last-passed 10 h)
 
 -- with the check of e
-module _ (m : Machine) (d e v n r₀ r₁ : ℕ) {s : Bool} {w : OfWidth} (is : s ≡ sound m) (sure : not s ≡ false) (seat : d ≤ 15) (named : w ≡ ringOf e) where
-  pub no-ring : w ≡ NoRing → 5 ≡ firstMet (dealChecks m d e v n r₀ r₁)
-  no-ring h = begun m d _ is sure seat (met 5 _ (ap noRing (sym named ∙ h)))
+module _ (s : Bool) (at d e v n r₀ r₁ : ℕ) {w : OfWidth} (sure : not s ≡ false) (seat : d ≤ 15) (named : w ≡ ringOf e) where
+  pub no-ring : w ≡ NoRing → 5 ≡ firstMet (dealChecks s at d e v n r₀ r₁)
+  no-ring h = begun s d _ sure seat (met 5 _ (ap noRing (sym named ∙ h)))
 
-  pub in-ring : {r : Ring} {p u : ℕ} → w ≡ Named r → p ≡ modulusOf r → u ≡ firstMet (numberChecks p v n (m .«dealer_at») r₀ r₁)
-      → u ≡ firstMet (dealChecks m d e v n r₀ r₁)
+  pub in-ring : {r : Ring} {p u : ℕ} → w ≡ Named r → p ≡ modulusOf r → u ≡ firstMet (numberChecks p v n at r₀ r₁)
+      → u ≡ firstMet (dealChecks s at d e v n r₀ r₁)
   in-ring h modular rest =
       let ring = sym named ∙ h in
       let same = modular ∙ ap modulus (sym (width-named e ring)) in
-      begun m d _ is sure seat
-      (passed 5 _ (ap noRing ring) (rest ∙ ap (λ (p : ℕ). firstMet (numberChecks p v n (m .«dealer_at») r₀ r₁)) same))
+      begun s d _ sure seat
+      (passed 5 _ (ap noRing ring) (rest ∙ ap (λ (p : ℕ). firstMet (numberChecks p v n at r₀ r₁)) same))
 
 -- what an accepted deal has passed
-module _ (m : Machine) (d e v n r₀ r₁ : ℕ) (fine : firstMet (dealChecks m d e v n r₀ r₁) ≡ 0) where
-  pub deal-seated : Seated m d
-  deal-seated = there m d _ fine
-
-  pub deal-in : (v < modulus e) × ((r₀ < modulus e) × (r₁ < modulus e))
-  deal-in =
-      let p = modulus e in
-      let numbers = unmet-rest (noRing (ringOf e)) 5 _ refl (others m d _ fine) in
-      let tape = unmet-rest (ltb million n) 8 _ refl (unmet-rest (leb p v) 7 _ refl numbers) in
-      let items = unmet (leb p r₀ || leb p r₁) 10 [] refl (unmet-rest (ltb n (m .«dealer_at» + 2)) 9 _ refl tape) in (
-        leb-false p v (unmet (leb p v) 7 _ refl numbers),
-        (
-          leb-false p r₀ (one-false (leb p r₀) (leb p r₁) items),
-          leb-false p r₁ (other-false (leb p r₀) (leb p r₁) items),
-        ),
-      )
+pub deal-in : (s : Bool) (at d e v n r₀ r₁ : ℕ) → firstMet (dealChecks s at d e v n r₀ r₁) ≡ 0
+    → (v < modulus e) × ((r₀ < modulus e) × (r₁ < modulus e))
+deal-in s at d e v n r₀ r₁ fine =
+    let p = modulus e in
+    let numbers = unmet-rest (noRing (ringOf e)) 5 _ refl (others s d _ fine) in
+    let tape = unmet-rest (ltb million n) 8 _ refl (unmet-rest (leb p v) 7 _ refl numbers) in
+    let items = unmet (leb p r₀ || leb p r₁) 10 [] refl (unmet-rest (ltb n (at + 2)) 9 _ refl tape) in (
+      leb-false p v (unmet (leb p v) 7 _ refl numbers),
+      (
+        leb-false p r₀ (one-false (leb p r₀) (leb p r₁) items),
+        leb-false p r₁ (other-false (leb p r₀) (leb p r₁) items),
+      ),
+    )
 
 -- the register
 module _ (e v r₀ r₁ : ℕ) where
@@ -105,24 +104,26 @@ module _ (e v r₀ r₁ : ℕ) where
       ∙ sym (ap (λ (w : OfWidth). registerOf (numberKind w) (dealtShares (modulus e) v r₀ r₁)) h)
 
 -- the step, with items r₀ and r₁ next on the tape
-module _ (m : Machine) (d e v : ℕ) (D : List ℕ) {r₀ r₁ : ℕ}
-    (first : r₀ ≡ getD (drop (m .«dealer_at») D) 0 0) (second : r₁ ≡ getD (drop (m .«dealer_at») D) 1 0)
+module _ (m : Machine) (d e v : ℕ) (D : List ℕ) {s : Bool} {at r₀ r₁ : ℕ} (of : Dealing m s at)
+    (first : r₀ ≡ getD (drop at D) 0 0) (second : r₁ ≡ getD (drop at D) 1 0)
     (M c : Place → List ℕ) where
   abbrev lent : Tapes
   lent = record { masks = M; dealer = D }
 
-  checks-are : {u : ℕ} → u ≡ firstMet (dealChecks m d e v (length D) r₀ r₁) → u ≡ firstMet (checks (Deal d e v) m lent c)
+  checks-are : {u : ℕ} → u ≡ firstMet (dealChecks s at d e v (length D) r₀ r₁) → u ≡ firstMet (checks (Deal d e v) m lent c)
   unfolding checks publicChecks
-  checks-are h = h ∙ ap₂ (λ (x y : ℕ). firstMet (dealChecks m d e v (length D) x y)) first second
+  checks-are h = rw (first, second, of .place, of .sound) at h
 
-  pub deal-refused : {a : Answer} {w : Refusal} → a ≡ Refused w → refusalOf a ≡ firstMet (dealChecks m d e v (length D) r₀ r₁)
-      → reported (record { machine = m; answer = a }) c ≡ step (Deal d e v) m lent c
+  pub deal-refused : {a : Answer} {w : Refusal} → a ≡ Refused w → refusalOf a ≡ firstMet (dealChecks s at d e v (length D) r₀ r₁)
+      → Changes m (change.Refused w) c (step (Deal d e v) m lent c)
   deal-refused is h = step-refused (Deal d e v) m lent c is (checks-are h)
 
-  pub deal-done : {o : Outcome} {a : Register} → firstMet (dealChecks m d e v (length D) r₀ r₁) ≡ 0
-      → o ≡ stored d a 0 2 m c → a ≡ dealtRegister e v r₀ r₁ → o ≡ step (Deal d e v) m lent c
+  pub deal-done : {a : Register} → firstMet (dealChecks s at d e v (length D) r₀ r₁) ≡ 0
+      → a ≡ dealtRegister e v r₀ r₁ → Changes m (change.Stored d a 0 2) c (step (Deal d e v) m lent c)
   unfolding dealt
-  deal-done fine is register =
-      is
-      ∙ ap (λ (a : Register). stored d a 0 2 m c) (register ∙ ap₂ (dealtRegister e v) first second)
-      ∙ step-performed (Deal d e v) m lent c (checks-are (sym fine))
+  deal-done fine register =
+      record {
+        fits = (there s d _ fine m (of .sound), omega arith, omega arith);
+        is = ap (λ (a : Register). stored d a 0 2 m c) (rw (first, second, of .place) at register)
+            ∙ step-performed (Deal d e v) m lent c (checks-are (sym fine));
+      }

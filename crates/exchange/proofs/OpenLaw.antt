@@ -16,16 +16,18 @@ use Rattle.gate.specs.declared.sharing.Sharing.{Sharing}
 use Rattle.gate.proofs.PlaceLaw.{each}
 use Rattle.circuit.proofs.LentLaw.{part-is}
 use Rattle.machine.specs.Checks.{Tapes, firstMet, isEmpty, publicChecks, uneven}
-use Rattle.machine.specs.Registers.{kindAt, kindOf, publicOf, registerAt, sharesOf, sound, soundRegister}
-use Rattle.machine.specs.Step.{Outcome, checks, moved, opened, step, valueOf, written}
+use Rattle.machine.specs.Registers.{kindOf, sharesOf, soundRegister}
+use Rattle.machine.specs.Step.{checks, opened, step, valueOf, written}
 use Rattle.machine.specs.declared.answers.Answer.{Answer}
-use Rattle.machine.specs.declared.answers.Answer.the-variants.{Done, Refused}
+use Rattle.machine.specs.declared.answers.Answer.the-variants.{Refused}
 use Rattle.machine.specs.declared.answers.Refusal.{Refusal}
 use Rattle.machine.specs.declared.orders.Order.the-variants.{Open}
 use Rattle.machine.specs.declared.registers.Machine.{Machine}
 use Rattle.machine.specs.declared.registers.Register.{Register}
-use Rattle.order.specs.Answers.{refusalOf, reported}
-use Rattle.order.specs.Tasks.{Seated}
+use Rattle.order.specs.Answers.{refusalOf}
+use Rattle.order.specs.Attempts.{Sources}
+use Rattle.order.specs.Changes.{Changes, applied}
+use Rattle.order.specs.declared.changes.Change.the-variants as change
 use Rattle.order.proofs.KindlyLaw.{unmet, unmet-rest}
 use Rattle.order.proofs.PrepareLaw.{kind-of}
 use Rattle.order.proofs.SoundLaw.{one-false, other-false, register-sound}
@@ -45,27 +47,21 @@ module _ (l₀ l₁ l₂ at : ℕ) where
     channel-fits h = passed 8 _ even (last-passed 11 (le-ltb l₀ (at + 1) (omega arith)))
 
 -- with the check of x
-module _ (m : Machine) (x : ℕ) (n : Place → ℕ) {s t : Bool} {a : Register} (is : s ≡ sound m) (sure : not s ≡ false) (named : x ≤ 15)
-    (found : a ≡ registerAt m x) (test : t ≡ isEmpty (kindOf a)) where
-  pub source-empty : t ≡ true → 3 ≡ firstMet (openChecks m x n)
-  source-empty h = begun m x _ is sure named (met 3 _ (ap isEmpty (sym (kind-of m x found)) ∙ sym test ∙ h))
+module _ (s : Bool) (x : ℕ) (a : Register) (at : ℕ) (n : Place → ℕ) {t : Bool} (sure : not s ≡ false) (named : x ≤ 15) (test : t ≡ isEmpty (kindOf a)) where
+  pub source-empty : t ≡ true → 3 ≡ firstMet (openChecks s x a at n)
+  source-empty h = begun s x _ sure named (met 3 _ (sym test ∙ h))
 
-  pub source-there : {u : ℕ} → t ≡ false → u ≡ firstMet (channelChecks n (m .«channels_at»)) → u ≡ firstMet (openChecks m x n)
-  source-there h rest =
-      begun m x _ is sure named (passed 3 _ (ap isEmpty (sym (kind-of m x found)) ∙ sym test ∙ h) rest)
+  pub source-there : {u : ℕ} → t ≡ false → u ≡ firstMet (channelChecks n at) → u ≡ firstMet (openChecks s x a at n)
+  source-there h rest = begun s x _ sure named (passed 3 _ (sym test ∙ h) rest)
 
 -- what an accepted opening has passed
-module _ (m : Machine) (x l₀ l₁ l₂ : ℕ) (fine : firstMet (openChecks m x (three l₀ l₁ l₂)) ≡ 0) where
-  pub open-seated : Seated m x
-  open-seated = there m x _ fine
+module _ (s : Bool) (x : ℕ) (a : Register) (at l₀ l₁ l₂ : ℕ) (fine : firstMet (openChecks s x a at (three l₀ l₁ l₂)) ≡ 0) where
+  pub open-sound : {m : Machine} → Sources m s x a x a → soundRegister a ≡ true
+  open-sound {m} of = ap soundRegister (of .first) ∙ register-sound m (sym (of .sound) ∙ good s x _ fine) x
 
-  pub open-sound : {a : Register} → a ≡ registerAt m x → soundRegister a ≡ true
-  open-sound found = ap soundRegister found ∙ register-sound m (good m x _ fine) x
-
-  pub open-room : (m .«channels_at» < l₀) × ((m .«channels_at» < l₁) × (m .«channels_at» < l₂))
+  pub open-room : (at < l₀) × ((at < l₁) × (at < l₂))
   open-room =
-      let at = m .«channels_at» in
-      let wires = unmet-rest (isEmpty (kindAt (publicOf m) x)) 3 _ refl (others m x _ fine) in
+      let wires = unmet-rest (isEmpty (kindOf a)) 3 _ refl (others s x _ fine) in
       let even = unmet (uneven (three l₀ l₁ l₂)) 8 _ refl wires in
       let room = ltb-false l₀ (at + 1) (unmet (ltb l₀ (at + 1)) 11 [] refl (unmet-rest (uneven (three l₀ l₁ l₂)) 8 _ refl wires)) in
       let first = eqb-true l₀ l₁ (not-false _ (one-false (not (eqb l₀ l₁)) _ even)) in
@@ -96,24 +92,23 @@ all-written a at c₀ c₁ c₂ {d₀} {d₁} {d₂} room e =
     (one-written at c₁ (a .s2) (room .1 .0) (e .one))
     (one-written at c₂ (a .s0) (room .1 .1) (e .two)))
 
-module _ (m : Machine) (x : ℕ) (c : Place → List ℕ) where
-  -- what the run leaves
-  pub opened-is : {n : Machine} {a : Register} {z : Sharing} {v : ℕ} {d : Place → List ℕ}
-      → a ≡ registerAt m x → n ≡ moved m 0 1 0 → v ≡ valueOf a → z ≡ sharesOf a
-      → d ≡ tabled (λ i. written (m .«channels_at») (parts z (next i) ∷ []) (c i))
-      → reported (record { machine = n; answer = Done v 0 }) d ≡ opened x m c
-  unfolding opened
-  opened-is found rise value shares words = rw (words, shares, value, rise, found)
-
-  -- the step
-  checks-are : (T : Tapes) {u : ℕ} → u ≡ firstMet (openChecks m x (tabled (λ i. length (c i)))) → u ≡ firstMet (checks (Open x) m T c)
+-- the step
+module _ (m : Machine) (x : ℕ) (T : Tapes) (c : Place → List ℕ) {s : Bool} {a : Register} {at : ℕ} (of : Sources m s x a x a) (place : at ≡ m .«channels_at») where
+  checks-are : {u : ℕ} → u ≡ firstMet (openChecks s x a at (tabled (λ i. length (c i)))) → u ≡ firstMet (checks (Open x) m T c)
   unfolding checks publicChecks firstMet
-  checks-are T h = h
+  checks-are h = rw (place, kind-of m x (of .first), of .sound) at h
 
-  pub open-refused : {a : Answer} {w : Refusal} → a ≡ Refused w → refusalOf a ≡ firstMet (openChecks m x (tabled (λ i. length (c i))))
-      → (T : Tapes) → reported (record { machine = m; answer = a }) c ≡ step (Open x) m T c
-  open-refused is h T = step-refused (Open x) m T c is (checks-are T h)
+  pub open-refused : {v : Answer} {w : Refusal} → v ≡ Refused w → refusalOf v ≡ firstMet (openChecks s x a at (tabled (λ i. length (c i))))
+      → Changes m (change.Refused w) c (step (Open x) m T c)
+  open-refused is h = step-refused (Open x) m T c is (checks-are h)
 
-  pub open-done : {o : Outcome} → firstMet (openChecks m x (tabled (λ i. length (c i)))) ≡ 0
-      → o ≡ opened x m c → (T : Tapes) → o ≡ step (Open x) m T c
-  open-done fine is T = is ∙ step-performed (Open x) m T c (checks-are T (sym fine))
+  pub open-done : {z : Sharing} {v : ℕ} {d : Place → List ℕ} → firstMet (openChecks s x a at (tabled (λ i. length (c i)))) ≡ 0
+      → v ≡ valueOf a → z ≡ sharesOf a → d ≡ tabled (λ i. written at (parts z (next i) ∷ []) (c i))
+      → Changes m (change.Opened v) d (step (Open x) m T c)
+  unfolding opened
+  open-done {z} {v} {d} fine value shares words =
+      let is : applied (change.Opened v) m d ≡ opened x m c = rw (words, shares, value, place, of .first) in
+      record {
+        fits = there s x _ fine m (of .sound) .channels;
+        is = is ∙ step-performed (Open x) m T c (checks-are (sym fine));
+      }

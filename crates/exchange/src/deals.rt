@@ -1,23 +1,23 @@
 // Order 1: a number comes in from the dealer.
 ghost use mathlib.Core.List.{List};
 ghost use mathlib.Core.Path.{_≡_};
-ghost use Prim.Native.Nat.{ℕ, _<_, _≤_};
+ghost use Prim.Native.Nat.{ℕ, _<_};
 ghost use lib.ListN.{drop, getD};
 ghost use Rattle.ring.specs.Rings.{modulus};
 ghost use Rattle.gate.specs.Places.{Place};
 ghost use Rattle.machine.specs.Checks.{firstMet};
-ghost use Rattle.machine.specs.Registers.{million};
 ghost use Rattle.machine.specs.Step.{step};
-ghost use Rattle.order.specs.Answers.{refusalOf, reported};
-ghost use Rattle.exchange.specs.Exchanges.{dealChecks, dealtRegister, numberChecks};
+ghost use Rattle.order.specs.Answers.{refusalOf};
+ghost use Rattle.order.specs.Changes.{Changes};
+ghost use Rattle.exchange.specs.Exchanges.{Dealing, dealChecks, dealtRegister, numberChecks};
 use gate::Sharing;
 use machine::Answer;
 use machine::Machine;
 use machine::Order;
 use machine::Refusal;
 use machine::Register;
-use order::Outcome;
-use order::stored;
+use order::Change;
+use order::too_few;
 use ring::OfWidth;
 use ring::Ring;
 
@@ -39,7 +39,6 @@ fn item(tape: &[u64], at: u64, k: u64) -> u64
 
 // Checks 7 to 10: v and two items against p, and a tape of n words.
 fn number_why(p: u64, v: u64, n: u64, at: u64, r0: u64, r1: u64) -> Answer
-    requires { ⌜ at ≤ million ⌝ }
     ensures { λ a. ⌜ refusalOf a ≡ firstMet (numberChecks p v n at r0 r1) ⌝ }
 {
     if p <= v {
@@ -48,7 +47,7 @@ fn number_why(p: u64, v: u64, n: u64, at: u64, r0: u64, r1: u64) -> Answer
     if MILLION < n {
         return Answer::Refused(Refusal::BadLength);
     }
-    if n < at + 2 {
+    if too_few(n, at, 2) {
         return Answer::Refused(Refusal::TapeShort);
     }
     if (p <= r0) | (p <= r1) {
@@ -58,10 +57,10 @@ fn number_why(p: u64, v: u64, n: u64, at: u64, r0: u64, r1: u64) -> Answer
 }
 
 // All checks of a deal.
-fn deal_why(m: Machine, d: u64, e: u64, v: u64, n: u64, r0: u64, r1: u64) -> Answer
-    ensures { λ a. ⌜ refusalOf a ≡ firstMet (dealChecks m d e v n r0 r1) ⌝ }
+fn deal_why(sound: bool, at: u64, d: u64, e: u64, v: u64, n: u64, r0: u64, r1: u64) -> Answer
+    ensures { λ a. ⌜ refusalOf a ≡ firstMet (dealChecks sound at d e v n r0 r1) ⌝ }
 {
-    if !m.is_sound() {
+    if !sound {
         return Answer::Refused(Refusal::Unsound);
     }
     if 15 < d {
@@ -70,7 +69,7 @@ fn deal_why(m: Machine, d: u64, e: u64, v: u64, n: u64, r0: u64, r1: u64) -> Ans
     let w = Ring::of_width(e);
     match w {
         OfWidth::NoRing => Answer::Refused(Refusal::NoRing),
-        OfWidth::Named(r) => number_why(r.modulus(), v, n, m.dealer_at, r0, r1),
+        OfWidth::Named(r) => number_why(r.modulus(), v, n, at, r0, r1),
     }
 }
 
@@ -92,17 +91,19 @@ fn dealt_register(e: u64, v: u64, r0: u64, r1: u64) -> Register
 }
 
 // Order 1.
-pub fn deal(m: Machine, d: u64, e: u64, v: u64, dealer: &[u64]) -> Outcome
-    ensures { λ o. ⌜ ((M c : Place → List ℕ) → reported o c ≡ step (Order.Deal d e v) m (record { masks = M; dealer = now (dealer .entry) }) c) ⌝ }
+pub fn deal(sound: bool, at: u64, d: u64, e: u64, v: u64, dealer: &[u64]) -> Change
+    ensures { λ k. ⌜ ((m : Machine) → Dealing m sound at → (M c : Place → List ℕ) → Changes m k c (step (Order.Deal d e v) m (record { masks = M; dealer = now (dealer .entry) }) c)) ⌝ }
 {
-    let r0 = item(dealer, m.dealer_at, 0);
-    let r1 = item(dealer, m.dealer_at, 1);
-    let a = deal_why(m, d, e, v, dealer.len() as u64, r0, r1);
+    let r0 = item(dealer, at, 0);
+    let r1 = item(dealer, at, 1);
+    let a = deal_why(sound, at, d, e, v, dealer.len() as u64, r0, r1);
     match a {
-        Answer::Refused(_) => Outcome {
-            machine: m,
-            answer: a,
+        Answer::Refused(w) => Change::Refused(w),
+        Answer::Done { value: _, gates: _ } => Change::Stored {
+            d,
+            register: dealt_register(e, v, r0, r1),
+            gates: 0,
+            items: 2,
         },
-        Answer::Done { value: _, gates: _ } => stored(m, d, dealt_register(e, v, r0, r1), 0, 2),
     }
 }

@@ -5,8 +5,10 @@ ghost use Prim.Native.Nat.{_<_};
 ghost use lib.ListN.{length};
 ghost use Rattle.gate.specs.Places.{next, parts, tabled, three};
 ghost use Rattle.machine.specs.Checks.{Tapes, firstMet};
-ghost use Rattle.machine.specs.Step.{opened, step, written};
-ghost use Rattle.order.specs.Answers.{refusalOf, reported};
+ghost use Rattle.machine.specs.Step.{step, written};
+ghost use Rattle.order.specs.Answers.{refusalOf};
+ghost use Rattle.order.specs.Attempts.{Sources};
+ghost use Rattle.order.specs.Changes.{Changes};
 ghost use Rattle.exchange.specs.Exchanges.{channelChecks, openChecks};
 use gate::Sharing;
 use gate::send;
@@ -14,7 +16,8 @@ use machine::Answer;
 use machine::Machine;
 use machine::Order;
 use machine::Refusal;
-use order::Outcome;
+use machine::Register;
+use order::Change;
 
 const MILLION: u64 = 1_000_000;
 
@@ -32,20 +35,19 @@ fn channels_why(l0: u64, l1: u64, l2: u64, at: u64) -> Answer
 }
 
 // All checks of an opening.
-fn open_why(m: Machine, x: u64, l0: u64, l1: u64, l2: u64) -> Answer
-    ensures { λ a. ⌜ refusalOf a ≡ firstMet (openChecks m x (three l0 l1 l2)) ⌝ }
+fn open_why(sound: bool, x: u64, a: Register, at: u64, l0: u64, l1: u64, l2: u64) -> Answer
+    ensures { λ v. ⌜ refusalOf v ≡ firstMet (openChecks sound x a at (three l0 l1 l2)) ⌝ }
 {
-    if !m.is_sound() {
+    if !sound {
         return Answer::Refused(Refusal::Unsound);
     }
     if 15 < x {
         return Answer::Refused(Refusal::NoRegister);
     }
-    let a = m.register(x);
     if a.is_empty() {
         return Answer::Refused(Refusal::EmptySource);
     }
-    channels_why(l0, l1, l2, m.channels_at)
+    channels_why(l0, l1, l2, at)
 }
 
 // Unit i sends sub-share i+1: one word a channel, at a position.
@@ -64,31 +66,34 @@ fn open_words(a: Sharing, at: u64, c0: &mut [u64], c1: &mut [u64], c2: &mut [u64
     send(z, &mut c0[k..], &mut c1[k..], &mut c2[k..]);
 }
 
-// An opening that no check refuses.
-fn open_run(m: Machine, x: u64, c0: &mut [u64], c1: &mut [u64], c2: &mut [u64]) -> Outcome
-    requires { ⌜ firstMet (openChecks m x (three (length (now c0)) (length (now c1)) (length (now c2)))) ≡ 0 ⌝ }
-    ensures { λ o. ⌜ reported o (three (now (c0 .exit)) (now (c1 .exit)) (now (c2 .exit))) ≡ opened x m (three (now (c0 .entry)) (now (c1 .entry)) (now (c2 .entry))) ⌝ }
+// Order 9, of a register a at number x.
+pub fn open(
+    sound: bool,
+    x: u64,
+    a: Register,
+    at: u64,
+    c0: &mut [u64],
+    c1: &mut [u64],
+    c2: &mut [u64],
+) -> Change
+    requires { ⌜ ((m : Machine) × Sources m sound x a x a) ⌝ }
+    ensures { λ k. ⌜ ((m : Machine) → Sources m sound x a x a → at ≡ m .«channels_at» → (T : Tapes) → Changes m k (three (now (c0 .exit)) (now (c1 .exit)) (now (c2 .exit))) (step (Order.Open x) m T (three (now (c0 .entry)) (now (c1 .entry)) (now (c2 .entry))))) ⌝ }
 {
-    let a = m.register(x);
-    let value = a.value();
-    let n = m.moved(0, 1, 0);
-    open_words(a.shares(), m.channels_at, c0, c1, c2);
-    Outcome {
-        machine: n,
-        answer: Answer::Done { value, gates: 0 },
-    }
-}
-
-// Order 9.
-pub fn open(m: Machine, x: u64, c0: &mut [u64], c1: &mut [u64], c2: &mut [u64]) -> Outcome
-    ensures { λ o. ⌜ ((T : Tapes) → reported o (three (now (c0 .exit)) (now (c1 .exit)) (now (c2 .exit))) ≡ step (Order.Open x) m T (three (now (c0 .entry)) (now (c1 .entry)) (now (c2 .entry)))) ⌝ }
-{
-    let a = open_why(m, x, c0.len() as u64, c1.len() as u64, c2.len() as u64);
-    match a {
-        Answer::Refused(_) => Outcome {
-            machine: m,
-            answer: a,
-        },
-        Answer::Done { value: _, gates: _ } => open_run(m, x, c0, c1, c2),
+    let v = open_why(
+        sound,
+        x,
+        a,
+        at,
+        c0.len() as u64,
+        c1.len() as u64,
+        c2.len() as u64,
+    );
+    match v {
+        Answer::Refused(w) => Change::Refused(w),
+        Answer::Done { value: _, gates: _ } => {
+            let value = a.value();
+            open_words(a.shares(), at, c0, c1, c2);
+            Change::Opened { value }
+        }
     }
 }

@@ -1,7 +1,7 @@
 // Registers and the machine record, by value.
 ghost use mathlib.Core.Path.{_≡_};
 ghost use Prim.Native.Nat.{_+_, _<_, _^_};
-ghost use Rattle.machine.specs.Registers.{emptyMachine, registerAt, sound, sharesBelow, soundRegister, soundSlots, withRegister};
+ghost use Rattle.machine.specs.Registers.{emptyMachine, registerAt, sound, sharesBelow, soundRegister, withRegister};
 ghost use Rattle.machine.specs.Step.{moved};
 use gate::Sharing;
 use ring::Ring;
@@ -46,9 +46,16 @@ impl Machine {
     pub fn is_sound(self) -> bool
         ensures { λ r. ⌜ r ≡ sound self ⌝ }
     {
-        slots_sound(self)
-            & ((self.masks_at <= MILLION)
-                & ((self.channels_at <= MILLION) & (self.dealer_at <= MILLION)))
+        let mut i = 0;
+        while i < 16 {
+            let s = self.slots[i];
+            let r = s.reg;
+            if !r.is_sound() {
+                return false;
+            }
+            i += 1;
+        }
+        (self.masks_at <= MILLION) & ((self.channels_at <= MILLION) & (self.dealer_at <= MILLION))
     }
 
     // Empty registers, zero positions.
@@ -121,20 +128,4 @@ fn bits_sound(l: u64, x: Sharing) -> bool
         return false;
     }
     (1 <= l) & in_range(1 << l, x)
-}
-
-// Every register sound.
-fn slots_sound(m: Machine) -> bool
-    ensures { λ r. ⌜ r ≡ soundSlots (m .slots) ⌝ }
-{
-    let mut i = 0;
-    while i < 16 {
-        let s = m.slots[i];
-        let r = s.reg;
-        if !r.is_sound() {
-            return false;
-        }
-        i += 1;
-    }
-    true
 }

@@ -41,7 +41,7 @@ unfolding firstMet
 unmet-rest true n cs h e = let z : true ≡ false = sym (ap (λ (k : ℕ). eqb k 0) e) ∙ h in cc
 unmet-rest false n cs h e = e
 
-begin-refuses : (m : Machine) (o : Order) → T (refusing (beginChecks m (named o) ++ kindChecks o (publicOf m)))
+begin-refuses : (m : Machine) (o : Order) → T (refusing (beginChecks (sound m) (named o) ++ kindChecks o (publicOf m)))
 begin-refuses m (Deal d e v) = tt
 begin-refuses m (Add d x y) = tt
 begin-refuses m (Scale d x c) = tt
@@ -54,15 +54,15 @@ begin-refuses m (Open x) = tt
 
 module _ (m : Machine) (o : Order) where
   -- then the rest
-  pub kindly-then : (rest : List Check) → firstMet ((beginChecks m (named o) ++ kindChecks o (publicOf m)) ++ rest) ≡ firstOf (kindly o m) (firstMet rest)
+  pub kindly-then : (rest : List Check) → firstMet ((beginChecks (sound m) (named o) ++ kindChecks o (publicOf m)) ++ rest) ≡ firstOf (kindly o m) (firstMet rest)
   unfolding kindly
-  kindly-then rest = joined (beginChecks m (named o) ++ kindChecks o (publicOf m)) rest (begin-refuses m o)
+  kindly-then rest = joined (beginChecks (sound m) (named o) ++ kindChecks o (publicOf m)) rest (begin-refuses m o)
 
 -- a register that is named twice
-pub begin-twice : (m : Machine) (d x : ℕ) {v : ℕ} → v ≡ firstMet (beginChecks m (d ∷ x ∷ x ∷ [])) → v ≡ firstMet (beginChecks m (d ∷ x ∷ []))
+pub begin-twice : (sure : Bool) (d x : ℕ) {v : ℕ} → v ≡ firstMet (beginChecks sure (d ∷ x ∷ x ∷ [])) → v ≡ firstMet (beginChecks sure (d ∷ x ∷ []))
 unfolding anyAbove15
-begin-twice m d x e =
-    e ∙ ap (λ (b : Bool). firstMet (check (not (sound m)) 1 ∷ check (ltb 15 d || b) 2 ∷ [])) (or-self-left (ltb 15 x) false)
+begin-twice sure d x e =
+    e ∙ ap (λ (b : Bool). firstMet (check (not sure) 1 ∷ check (ltb 15 d || b) 2 ∷ [])) (or-self-left (ltb 15 x) false)
 
 -- one list, then another
 pub then-joined : (ks ls : List Check) → T (refusing ks) → {u v w : ℕ} → u ≡ firstOf v w → v ≡ firstMet ks → w ≡ firstMet ls → u ≡ firstMet (ks ++ ls)

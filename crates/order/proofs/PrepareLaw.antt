@@ -23,7 +23,7 @@ use Rattle.machine.specs.declared.registers.Machine.{Machine}
 use Rattle.machine.specs.declared.registers.Register.{Register}
 use Rattle.machine.specs.declared.registers.Register.the-variants.{Number}
 use Rattle.machine.proofs.KindLaw.{left-true, right-true}
-use Rattle.order.specs.Attempts.{Prepares, beginChecks, kindly}
+use Rattle.order.specs.Attempts.{Prepares, Sources, beginChecks, kindly}
 use Rattle.order.specs.Tasks.{addedTo, scaledBy}
 use Rattle.order.specs.declared.tasks.Prepared.the-variants.{Gates, Local}
 use Rattle.order.specs.declared.tasks.Task.the-variants as task
@@ -102,12 +102,11 @@ module _ (m : Machine) where
         → (isNumber (kindOf a) ≡ true → kindOf a ≡ number r) → s ≡ sharesOf a → InRange (modulusOf r) s
     source-in {r = r} sure at ring shares = ranged x sure (number-at at ring) at shares
 
-  pub decompose-kindly : (d x l : ℕ) {a : Register} {w most v : ℕ} → a ≡ registerAt m x → w ≡ widthAt (kindOf a) → most ≡ w - 2
-      → v ≡ firstMet (beginChecks m (d ∷ x ∷ []) ++ (aNumber (kindAt (publicOf m) x) ++ (check (not (leb 1 l && leb l most)) 7 ∷ [])))
+  pub decompose-kindly : (d x l : ℕ) {s : Bool} {a : Register} {w most v : ℕ} → Sources m s x a x a → w ≡ widthAt (kindOf a) → most ≡ w - 2
+      → v ≡ firstMet (beginChecks s (d ∷ x ∷ []) ++ (aNumber (kindOf a) ++ (check (not (leb 1 l && leb l most)) 7 ∷ [])))
       → v ≡ kindly (Decompose d x l) m
   unfolding kindly
-  decompose-kindly d x l at wide most e =
-      rw (most, wide, kind-of x at) at e
+  decompose-kindly d x l of wide most e = rw (most, wide, kind-of x (of .first), of .sound) at e
 
   pub decompose-prepares : (d x l : ℕ) {a : Register} {r : Ring} {s : Sharing} → kindly (Decompose d x l) m ≡ 0 → a ≡ registerAt m x
       → (isNumber (kindOf a) ≡ true → kindOf a ≡ number r) → s ≡ sharesOf a → Prepares (Decompose d x l) m d (Gates (task.Decompose r s l))
@@ -128,11 +127,11 @@ module _ (m : Machine) where
         most = rw kind at (leb-true l (widthAt k - 2) (right-true (leb 1 l) (leb l (widthAt k - 2)) test));
       })
 
-  pub shift-kindly : (d x s : ℕ) {a : Register} {w most v : ℕ} → a ≡ registerAt m x → w ≡ widthAt (kindOf a) → most ≡ w - 3
-      → v ≡ firstMet (beginChecks m (d ∷ x ∷ []) ++ (aNumber (kindAt (publicOf m) x) ++ (check (not (leb s most)) 7 ∷ [])))
-      → v ≡ kindly (Shift d x s) m
+  pub shift-kindly : (d x n : ℕ) {s : Bool} {a : Register} {w most v : ℕ} → Sources m s x a x a → w ≡ widthAt (kindOf a) → most ≡ w - 3
+      → v ≡ firstMet (beginChecks s (d ∷ x ∷ []) ++ (aNumber (kindOf a) ++ (check (not (leb n most)) 7 ∷ [])))
+      → v ≡ kindly (Shift d x n) m
   unfolding kindly
-  shift-kindly d x s at wide most e = rw (most, wide, kind-of x at) at e
+  shift-kindly d x n of wide most e = rw (most, wide, kind-of x (of .first), of .sound) at e
 
   pub shift-prepares : (d x s : ℕ) {a : Register} {r : Ring} {z : Sharing} → kindly (Shift d x s) m ≡ 0 → a ≡ registerAt m x
       → (isNumber (kindOf a) ≡ true → kindOf a ≡ number r) → z ≡ sharesOf a → Prepares (Shift d x s) m d (Gates (task.Shift r z s))
@@ -152,11 +151,11 @@ module _ (m : Machine) where
         most = rw kind at (leb-true s (widthAt k - 3) test);
       })
 
-  pub convert-kindly : (d x f : ℕ) {t : Bool} {v : ℕ} → t ≡ noRing (ringOf f)
-      → v ≡ firstMet (beginChecks m (d ∷ x ∷ []) ++ (aNumber (kindAt (publicOf m) x) ++ (check t 5 ∷ [])))
+  pub convert-kindly : (d x f : ℕ) {s t : Bool} {a : Register} {v : ℕ} → Sources m s x a x a → t ≡ noRing (ringOf f)
+      → v ≡ firstMet (beginChecks s (d ∷ x ∷ []) ++ (aNumber (kindOf a) ++ (check t 5 ∷ [])))
       → v ≡ kindly (Convert d x f) m
   unfolding kindly
-  convert-kindly d x f e h = rw e at h
+  convert-kindly d x f of e h = rw (e, kind-of x (of .first), of .sound) at h
 
   pub convert-prepares : (d x f : ℕ) {a : Register} {r g : Ring} {s : Sharing} → kindly (Convert d x f) m ≡ 0 → a ≡ registerAt m x
       → (isNumber (kindOf a) ≡ true → kindOf a ≡ number r) → (noRing (ringOf f) ≡ false → ringOf f ≡ Named g)
@@ -175,11 +174,11 @@ module _ (m : Machine) where
       same same (seated m sure d (x ∷ []) (there o fine))
       (source-in x more (kinds o fine) sure at ring shares)
 
-  pub scale-kindly : (d x c : ℕ) {a : Register} {p v : ℕ} → a ≡ registerAt m x → p ≡ modulus (widthAt (kindOf a))
-      → v ≡ firstMet (beginChecks m (d ∷ x ∷ []) ++ (aNumber (kindAt (publicOf m) x) ++ (check (leb p c) 7 ∷ [])))
+  pub scale-kindly : (d x c : ℕ) {s : Bool} {a : Register} {p v : ℕ} → Sources m s x a x a → p ≡ modulus (widthAt (kindOf a))
+      → v ≡ firstMet (beginChecks s (d ∷ x ∷ []) ++ (aNumber (kindOf a) ++ (check (leb p c) 7 ∷ [])))
       → v ≡ kindly (Scale d x c) m
   unfolding kindly
-  scale-kindly d x c at e h = rw (e, kind-of x at) at h
+  scale-kindly d x c of e h = rw (e, kind-of x (of .first), of .sound) at h
 
   module _ (d x c : ℕ) {a : Register} {r : Ring} {s : Sharing} (fine : kindly (Scale d x c) m ≡ 0) (at : a ≡ registerAt m x)
       (ring : isNumber (kindOf a) ≡ true → kindOf a ≡ number r) (shares : s ≡ sharesOf a) where
@@ -204,11 +203,13 @@ module _ (m : Machine) where
         (seated m (good (Scale d x c) fine) d (x ∷ []) (there (Scale d x c) fine))
 
   -- two numbers of one ring
-  pub pair-kindly : (d x y : ℕ) {v : ℕ}
-      → v ≡ firstMet (beginChecks m (d ∷ x ∷ y ∷ []) ++ twoNumbers (kindAt (publicOf m) x) (kindAt (publicOf m) y))
+  pub pair-kindly : (d x y : ℕ) {s : Bool} {a b : Register} {v : ℕ} → Sources m s x a y b
+      → v ≡ firstMet (beginChecks s (d ∷ x ∷ y ∷ []) ++ twoNumbers (kindOf a) (kindOf b))
       → (v ≡ kindly (Add d x y) m) × (v ≡ kindly (Multiply d x y) m)
   unfolding kindly
-  pair-kindly d x y e = (e, e)
+  pair-kindly d x y of e =
+      let h = rw (kind-of x (of .first), kind-of y (of .second), of .sound) at e in
+      (h, h)
 
   module _ (x y : ℕ) {a b : Register} {r : Ring} {s t : Sharing}
       (sure : sound m ≡ true)
@@ -266,11 +267,11 @@ module _ (m : Machine) where
           right = pair-right x y (good o fine) (kinds o fine) left right ring shares others;
         })
 
-  pub compose-kindly : (d x f : ℕ) {t : Bool} {v : ℕ} → t ≡ noRing (ringOf f)
-      → v ≡ firstMet (beginChecks m (d ∷ x ∷ []) ++ (check (isEmpty (kindAt (publicOf m) x)) 3 ∷ check (isNumber (kindAt (publicOf m) x)) 4 ∷ check t 5 ∷ []))
+  pub compose-kindly : (d x f : ℕ) {s t : Bool} {a : Register} {v : ℕ} → Sources m s x a x a → t ≡ noRing (ringOf f)
+      → v ≡ firstMet (beginChecks s (d ∷ x ∷ []) ++ (check (isEmpty (kindOf a)) 3 ∷ check (isNumber (kindOf a)) 4 ∷ check t 5 ∷ []))
       → v ≡ kindly (Compose d x f) m
   unfolding kindly
-  compose-kindly d x f e h = rw e at h
+  compose-kindly d x f of e h = rw (e, kind-of x (of .first), of .sound) at h
 
   pub compose-prepares : (d x f : ℕ) {a : Register} {g : Ring} {s : Sharing} {l : ℕ} → kindly (Compose d x f) m ≡ 0 → a ≡ registerAt m x
       → (noRing (ringOf f) ≡ false → ringOf f ≡ Named g) → s ≡ sharesOf a → l ≡ countAt (kindOf a)

@@ -10,7 +10,7 @@ use Rattle.gate.specs.Places.{Place, parts, sharing, tabled}
 use Rattle.gate.proofs.PlaceLaw.{tabled-is}
 use Rattle.circuit.specs.Circuits.{Circuit, Gate, channelled, gatesOf, result, sent, starts}
 use Rattle.machine.specs.Checks.{Check, Tapes, badItem, check, firstMet, gateChecks, kindChecks, leftOf, lengthChecks, named, publicChecks}
-use Rattle.machine.specs.Registers.{Kind, publicOf, registerAt, registerOf, sharesOf}
+use Rattle.machine.specs.Registers.{Kind, publicOf, registerAt, registerOf, sharesOf, sound}
 use Rattle.machine.specs.Step.{Outcome, checks, computed, lengthsOf, performed, refused, step, stored, written}
 use Rattle.machine.specs.Work.{Work, adjusts, computes, workOf}
 use Rattle.machine.specs.declared.answers.Refusal.{Refusal}
@@ -100,7 +100,7 @@ module _ (o : Order) (m : Machine) where
   checks-split : (T : Tapes) (c : Place → List ℕ) → firstMet (checks o m T c) ≡ firstOf (kindly o m) (firstMet (laterChecks (workOf o (publicOf m)) m T c))
   unfolding checks publicChecks
   checks-split T c =
-      ap (λ (l : List Check). firstMet (beginChecks m (named o) ++ l))
+      ap (λ (l : List Check). firstMet (beginChecks (sound m) (named o) ++ l))
       (append-assoc (kindChecks o (publicOf m)) (lengthChecks (workOf o (publicOf m)) (publicOf m) (lengthsOf T c)) _)
       ∙ kindly-then m o (laterChecks (workOf o (publicOf m)) m T c)
 

@@ -1,6 +1,6 @@
 -- Orders 2 to 8 in two parts: what the record alone decides, and what lengths, items and gates do.
 use Prim.Native.Nat.{ℕ}
-use mathlib.Core.Bool.{cond, not}
+use mathlib.Core.Bool.{Bool, cond, not}
 use mathlib.Core.List.{List, [], _∷_, _++_}
 use mathlib.Core.Path.{_≡_}
 use lib.Dec.{eqb}
@@ -8,10 +8,11 @@ use lib.ListN.{drop, length}
 use Rattle.gate.specs.Places.{Place, parts, sharing, tabled}
 use Rattle.circuit.specs.Circuits.{channelled, gatesOf, moduli, result}
 use Rattle.machine.specs.Checks.{Check, Lengths, anyAbove15, anyBad, check, firstMet, gateChecks, kindChecks, named}
-use Rattle.machine.specs.Registers.{publicOf, registerOf, sound}
+use Rattle.machine.specs.Registers.{Public, publicOf, registerAt, registerOf, sound}
 use Rattle.machine.specs.Step.{Outcome, refused, step, stored, written}
 use Rattle.machine.specs.declared.orders.Order.{Order}
 use Rattle.machine.specs.declared.registers.Machine.{Machine}
+use Rattle.machine.specs.declared.registers.Register.{Register}
 use Rattle.order.specs.Answers.{numberOf}
 use Rattle.order.specs.Tasks.{Ready, circuitOf, kindLeft, otherOf, sourceOf}
 use Rattle.order.specs.declared.tasks.Prepared.{Prepared}
@@ -19,12 +20,18 @@ use Rattle.order.specs.declared.tasks.Prepared.the-variants.{Because, Ga
 use Rattle.order.specs.declared.tasks.Task.{Task}
 
 -- "Every order: 1 record not sound; 2 a register number above 15"
-abbrev pub beginChecks : Machine → List ℕ → List Check
-beginChecks m names = check (not (sound m)) 1 ∷ check (anyAbove15 names) 2 ∷ []
+abbrev pub beginChecks : Bool → List ℕ → List Check
+beginChecks sure names = check (not sure) 1 ∷ check (anyAbove15 names) 2 ∷ []
 
 -- and the checks of kinds, rings and the order's own numbers
 unfoldable pub kindly : Order → Machine → ℕ
-kindly o m = firstMet (beginChecks m (named o) ++ kindChecks o (publicOf m))
+kindly o m = firstMet (beginChecks (sound m) (named o) ++ kindChecks o (publicOf m))
+
+-- what orders read of a record: whether it is sound, and registers x and y
+pub record Sources (m : Machine) (sure : Bool) (x : ℕ) (a : Register) (y : ℕ) (b : Register) : Type 0 where
+  pub sound : sure ≡ sound m
+  pub first : a ≡ registerAt m x
+  pub second : b ≡ registerAt m y
 
 -- lengths of mask tapes and channels; the dealer's tape takes no part
 abbrev pub lengthsIn : (masks channels : Place → ℕ) → Lengths
@@ -36,6 +43,15 @@ lengthsOf T c = lengthsIn (tabled (λ i. length (T i))) (tabled (λ i. length (c
 -- what is left of the mask tapes
 abbrev pub masksLeft : Machine → (Place → List ℕ) → Place → List ℕ
 masksLeft m T = tabled (λ i. drop (m .«masks_at») (T i))
+
+-- the positions of mask tapes and channels of a record
+pub record At (m : Machine) (at ch : ℕ) : Type 0 where
+  pub masks : at ≡ m .«masks_at»
+  pub channels : ch ≡ m .«channels_at»
+
+-- and all that checks 9 and 11 read of it
+abbrev pub positions : (masks channels : ℕ) → Public
+positions masks channels = record { kinds = []; masksAt = masks; channelsAt = channels; dealerAt = 0 }
 
 -- the gates of a task
 unfoldable pub ran : Task → ℕ → Machine → (Place → List ℕ) → (Place → List ℕ) → Outcome

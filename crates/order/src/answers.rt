@@ -1,16 +1,10 @@
 // Verdicts and outcomes, and the answers' numbers.
 ghost use mathlib.Core.Bool.{cond};
-ghost use mathlib.Core.List.{List};
 ghost use mathlib.Core.Path.{_≡_};
-ghost use Prim.Native.Nat.{ℕ, _≤_};
-ghost use Rattle.gate.specs.Places.{Place};
-ghost use Rattle.machine.specs.Step.{refused, stored};
-ghost use Rattle.order.specs.Answers.{firstOf, gatesOf, numberOf, refusalOf, reported, valueOf, verdictOf};
-ghost use Rattle.order.specs.Tasks.{Seated};
+ghost use Rattle.order.specs.Answers.{firstOf, gatesOf, numberOf, refusalOf, valueOf, verdictOf};
 use machine::Answer;
 use machine::Machine;
 use machine::Refusal;
-use machine::Register;
 
 // What checks say.
 pub enum Verdict {
@@ -92,29 +86,5 @@ impl Verdict {
             Verdict::Fine => next,
             Verdict::Because(w) => Verdict::Because(w),
         }
-    }
-}
-
-// The record as it was.
-pub fn refused(m: Machine, w: Refusal) -> Outcome
-    ensures { λ r. ⌜ ((c : Place → List ℕ) → reported r c ≡ refused (numberOf w) m c) ⌝ }
-{
-    Outcome {
-        machine: m,
-        answer: Answer::Refused(w),
-    }
-}
-
-// Register r in d, so many gates spent and dealer's items taken.
-pub fn stored(m: Machine, d: u64, r: Register, gates: u64, items: u64) -> Outcome
-    requires seated { ⌜ Seated m d ⌝ }
-    requires few { ⌜ gates ≤ 296 ⌝ }
-    requires taken { ⌜ items ≤ 2 ⌝ }
-    ensures { λ o. ⌜ ((c : Place → List ℕ) → reported o c ≡ stored d r gates items m c) ⌝ }
-{
-    let n = m.moved(gates, gates, items);
-    Outcome {
-        machine: n.with_register(d, r),
-        answer: Answer::Done { value: 0, gates },
     }
 }

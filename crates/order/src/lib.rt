@@ -1,5 +1,6 @@
 // The nine orders of 01 and the machine's step.
 mod answers;
+mod changes;
 mod prepare;
 mod tasks;
 mod verdicts;
@@ -10,9 +11,9 @@ pub use answers::gates;
 pub use answers::number;
 pub use answers::refusal;
 pub use answers::refuse_if;
-pub use answers::refused;
-pub use answers::stored;
 pub use answers::value;
+pub use changes::Change;
+pub use changes::apply;
 pub use prepare::add;
 pub use prepare::compose;
 pub use prepare::convert;

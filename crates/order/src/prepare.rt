@@ -3,7 +3,7 @@ ghost use mathlib.Core.Path.{_≡_};
 ghost use Prim.Native.Nat.{_<_};
 ghost use Rattle.ring.specs.Rings.{modulusOf};
 ghost use Rattle.gate.specs.Places.{InRange};
-ghost use Rattle.order.specs.Attempts.{Prepares};
+ghost use Rattle.order.specs.Attempts.{Prepares, Sources};
 ghost use Rattle.order.specs.Tasks.{addedTo, scaledBy};
 use crate::answers::Verdict;
 use crate::tasks::Prepared;
@@ -46,12 +46,11 @@ fn products(r: Ring, x: Sharing, c: u64) -> Sharing
 }
 
 // Order 2.
-pub fn add(m: Machine, d: u64, x: u64, y: u64) -> Prepared
-    ensures { λ t. ⌜ Prepares (Order.Add d x y) m d t ⌝ }
+pub fn add(sound: bool, d: u64, x: u64, y: u64, a: Register, b: Register) -> Prepared
+    requires { ⌜ ((m : Machine) × Sources m sound x a y b) ⌝ }
+    ensures { λ t. ⌜ ((m : Machine) → Sources m sound x a y b → Prepares (Order.Add d x y) m d t) ⌝ }
 {
-    let a = m.register(x);
-    let b = m.register(y);
-    let v = pair_why(m, d, x, y);
+    let v = pair_why(sound, d, x, y, a, b);
     match v {
         Verdict::Because(w) => Prepared::Because(w),
         Verdict::Fine => {
@@ -62,11 +61,11 @@ pub fn add(m: Machine, d: u64, x: u64, y: u64) -> Prepared
 }
 
 // Order 3.
-pub fn scale(m: Machine, d: u64, x: u64, c: u64) -> Prepared
-    ensures { λ t. ⌜ Prepares (Order.Scale d x c) m d t ⌝ }
+pub fn scale(sound: bool, d: u64, x: u64, c: u64, a: Register) -> Prepared
+    requires { ⌜ ((m : Machine) × Sources m sound x a x a) ⌝ }
+    ensures { λ t. ⌜ ((m : Machine) → Sources m sound x a x a → Prepares (Order.Scale d x c) m d t) ⌝ }
 {
-    let a = m.register(x);
-    let v = number_why(m, d, x, a.modulus() <= c, Refusal::OutOfRange);
+    let v = number_why(sound, d, x, a, a.modulus() <= c, Refusal::OutOfRange);
     match v {
         Verdict::Because(w) => Prepared::Because(w),
         Verdict::Fine => {
@@ -77,12 +76,10 @@ pub fn scale(m: Machine, d: u64, x: u64, c: u64) -> Prepared
 }
 
 // Order 4.
-pub fn multiply(m: Machine, d: u64, x: u64, y: u64) -> Prepared
-    ensures { λ t. ⌜ Prepares (Order.Multiply d x y) m d t ⌝ }
+pub fn multiply(sound: bool, d: u64, x: u64, y: u64, a: Register, b: Register) -> Prepared
+    ensures { λ t. ⌜ ((m : Machine) → Sources m sound x a y b → Prepares (Order.Multiply d x y) m d t) ⌝ }
 {
-    let a = m.register(x);
-    let b = m.register(y);
-    let v = pair_why(m, d, x, y);
+    let v = pair_why(sound, d, x, y, a, b);
     match v {
         Verdict::Because(w) => Prepared::Because(w),
         Verdict::Fine => Prepared::Gates(Task::Multiply(a.ring(), a.shares(), b.shares())),
@@ -90,13 +87,12 @@ pub fn multiply(m: Machine, d: u64, x: u64, y: u64) -> Prepared
 }
 
 // Order 5.
-pub fn decompose(m: Machine, d: u64, x: u64, l: u64) -> Prepared
-    ensures { λ t. ⌜ Prepares (Order.Decompose d x l) m d t ⌝ }
+pub fn decompose(sound: bool, d: u64, x: u64, l: u64, a: Register) -> Prepared
+    ensures { λ t. ⌜ ((m : Machine) → Sources m sound x a x a → Prepares (Order.Decompose d x l) m d t) ⌝ }
 {
-    let a = m.register(x);
     let most = less(a.width(), 2);
     let inside = (1 <= l) & (l <= most);
-    let v = number_why(m, d, x, !inside, Refusal::OutOfRange);
+    let v = number_why(sound, d, x, a, !inside, Refusal::OutOfRange);
     match v {
         Verdict::Because(w) => Prepared::Because(w),
         Verdict::Fine => Prepared::Gates(Task::Decompose(a.ring(), a.shares(), l)),
@@ -104,11 +100,10 @@ pub fn decompose(m: Machine, d: u64, x: u64, l: u64) -> Prepared
 }
 
 // Order 6.
-pub fn convert(m: Machine, d: u64, x: u64, f: u64) -> Prepared
-    ensures { λ t. ⌜ Prepares (Order.Convert d x f) m d t ⌝ }
+pub fn convert(sound: bool, d: u64, x: u64, f: u64, a: Register) -> Prepared
+    ensures { λ t. ⌜ ((m : Machine) → Sources m sound x a x a → Prepares (Order.Convert d x f) m d t) ⌝ }
 {
-    let a = m.register(x);
-    let v = number_why(m, d, x, no_ring(f), Refusal::NoRing);
+    let v = number_why(sound, d, x, a, no_ring(f), Refusal::NoRing);
     match v {
         Verdict::Because(w) => Prepared::Because(w),
         Verdict::Fine => Prepared::Gates(Task::Convert(a.ring(), ring_named(f), a.shares())),
@@ -116,13 +111,12 @@ pub fn convert(m: Machine, d: u64, x: u64, f: u64) -> Prepared
 }
 
 // Order 7.
-pub fn shift(m: Machine, d: u64, x: u64, s: u64) -> Prepared
-    ensures { λ t. ⌜ Prepares (Order.Shift d x s) m d t ⌝ }
+pub fn shift(sound: bool, d: u64, x: u64, s: u64, a: Register) -> Prepared
+    ensures { λ t. ⌜ ((m : Machine) → Sources m sound x a x a → Prepares (Order.Shift d x s) m d t) ⌝ }
 {
-    let a = m.register(x);
     let most = less(a.width(), 3);
     let outside = !(s <= most);
-    let v = number_why(m, d, x, outside, Refusal::OutOfRange);
+    let v = number_why(sound, d, x, a, outside, Refusal::OutOfRange);
     match v {
         Verdict::Because(w) => Prepared::Because(w),
         Verdict::Fine => Prepared::Gates(Task::Shift(a.ring(), a.shares(), s)),
@@ -130,11 +124,10 @@ pub fn shift(m: Machine, d: u64, x: u64, s: u64) -> Prepared
 }
 
 // Order 8.
-pub fn compose(m: Machine, d: u64, x: u64, f: u64) -> Prepared
-    ensures { λ t. ⌜ Prepares (Order.Compose d x f) m d t ⌝ }
+pub fn compose(sound: bool, d: u64, x: u64, f: u64, a: Register) -> Prepared
+    ensures { λ t. ⌜ ((m : Machine) → Sources m sound x a x a → Prepares (Order.Compose d x f) m d t) ⌝ }
 {
-    let a = m.register(x);
-    let v = bits_why(m, d, x, no_ring(f));
+    let v = bits_why(sound, d, x, a, no_ring(f));
     match v {
         Verdict::Because(w) => Prepared::Because(w),
         Verdict::Fine => Prepared::Gates(Task::Compose(ring_named(f), a.shares(), a.count())),

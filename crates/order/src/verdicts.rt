@@ -7,12 +7,11 @@ ghost use lib.Dec.{ltb};
 ghost use Rattle.gate.specs.Places.{three};
 ghost use Rattle.ring.specs.Rings.{ringOf};
 ghost use Rattle.machine.specs.Checks.{aNumber, check, firstMet, isEmpty, isNumber, noRing, twoNumbers, uneven};
-ghost use Rattle.machine.specs.Registers.{kindAt, kindOf, publicOf};
+ghost use Rattle.machine.specs.Registers.{kindOf};
 ghost use Rattle.order.specs.Answers.{numberOf, verdictOf};
 ghost use Rattle.order.specs.Attempts.{beginChecks};
 use crate::answers::Verdict;
 use crate::answers::refuse_if;
-use machine::Machine;
 use machine::Refusal;
 use machine::Register;
 use ring::OfWidth;
@@ -21,10 +20,10 @@ use ring::Ring;
 const MILLION: u64 = 1_000_000;
 
 // Checks 1 and 2, of an order that names up to three registers.
-pub fn begin(m: Machine, d: u64, x: u64, y: u64) -> Verdict
-    ensures { λ v. ⌜ verdictOf v ≡ firstMet (beginChecks m (d ∷ x ∷ y ∷ [])) ⌝ }
+pub fn begin(sound: bool, d: u64, x: u64, y: u64) -> Verdict
+    ensures { λ v. ⌜ verdictOf v ≡ firstMet (beginChecks sound (d ∷ x ∷ y ∷ [])) ⌝ }
 {
-    let unsound = refuse_if(!m.is_sound(), Refusal::Unsound);
+    let unsound = refuse_if(!sound, Refusal::Unsound);
     let above = (15 < d) | ((15 < x) | (15 < y));
     unsound.then(refuse_if(above, Refusal::NoRegister))
 }
@@ -97,30 +96,26 @@ pub fn ring_named(e: u64) -> Ring
 }
 
 // All that the record decides of an order on two numbers.
-pub fn pair_why(m: Machine, d: u64, x: u64, y: u64) -> Verdict
-    ensures { λ v. ⌜ verdictOf v ≡ firstMet (beginChecks m (d ∷ x ∷ y ∷ []) ++ twoNumbers (kindAt (publicOf m) x) (kindAt (publicOf m) y)) ⌝ }
+pub fn pair_why(sound: bool, d: u64, x: u64, y: u64, a: Register, b: Register) -> Verdict
+    ensures { λ v. ⌜ verdictOf v ≡ firstMet (beginChecks sound (d ∷ x ∷ y ∷ []) ++ twoNumbers (kindOf a) (kindOf b)) ⌝ }
 {
-    let a = m.register(x);
-    let b = m.register(y);
-    begin(m, d, x, y).then(two_numbers(a, b))
+    begin(sound, d, x, y).then(two_numbers(a, b))
 }
 
 // And of an order on one number, with a check of its own last.
-pub fn number_why(m: Machine, d: u64, x: u64, met: bool, w: Refusal) -> Verdict
-    ensures { λ v. ⌜ verdictOf v ≡ firstMet (beginChecks m (d ∷ x ∷ []) ++ (aNumber (kindAt (publicOf m) x) ++ (check met (numberOf w) ∷ []))) ⌝ }
+pub fn number_why(sound: bool, d: u64, x: u64, a: Register, met: bool, w: Refusal) -> Verdict
+    ensures { λ v. ⌜ verdictOf v ≡ firstMet (beginChecks sound (d ∷ x ∷ []) ++ (aNumber (kindOf a) ++ (check met (numberOf w) ∷ []))) ⌝ }
 {
-    let a = m.register(x);
     let last = refuse_if(met, w);
-    begin(m, d, x, x).then(a_number(a).then(last))
+    begin(sound, d, x, x).then(a_number(a).then(last))
 }
 
 // And of composing.
-pub fn bits_why(m: Machine, d: u64, x: u64, met: bool) -> Verdict
-    ensures { λ v. ⌜ verdictOf v ≡ firstMet (beginChecks m (d ∷ x ∷ []) ++ (check (isEmpty (kindAt (publicOf m) x)) 3 ∷ check (isNumber (kindAt (publicOf m) x)) 4 ∷ check met 5 ∷ [])) ⌝ }
+pub fn bits_why(sound: bool, d: u64, x: u64, a: Register, met: bool) -> Verdict
+    ensures { λ v. ⌜ verdictOf v ≡ firstMet (beginChecks sound (d ∷ x ∷ []) ++ (check (isEmpty (kindOf a)) 3 ∷ check (isNumber (kindOf a)) 4 ∷ check met 5 ∷ [])) ⌝ }
 {
-    let a = m.register(x);
     let empty = refuse_if(a.is_empty(), Refusal::EmptySource);
     let number = refuse_if(a.is_number(), Refusal::WrongKind);
     let last = refuse_if(met, Refusal::NoRing);
-    begin(m, d, x, x).then(empty.then(number.then(last)))
+    begin(sound, d, x, x).then(empty.then(number.then(last)))
 }

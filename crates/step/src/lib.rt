@@ -1,21 +1,76 @@
 // The machine's step: one order on a record, with the tapes and channels that are lent.
+mod found;
+
 ghost use mathlib.Core.Path.{_≡_};
 ghost use Rattle.gate.specs.Places.{three};
 ghost use Rattle.machine.specs.Step.{step};
 ghost use Rattle.order.specs.Answers.{reported};
+ghost use Rattle.order.specs.Changes.{Changes};
+ghost use Rattle.step.specs.Found.{foundIn};
+use crate::found::Found;
+use crate::found::other;
+use crate::found::source;
 use attempt::attempt;
 use exchange::deal;
 use exchange::open;
 use machine::Machine;
 use machine::Order;
+use order::Change;
 use order::Outcome;
 use order::add;
+use order::apply;
 use order::compose;
 use order::convert;
 use order::decompose;
 use order::multiply;
 use order::scale;
 use order::shift;
+
+// What an order does to a record, by what it has found there.
+fn decide(
+    found: Found,
+    o: Order,
+    m0: &[u64],
+    m1: &[u64],
+    m2: &[u64],
+    dealer: &[u64],
+    c0: &mut [u64],
+    c1: &mut [u64],
+    c2: &mut [u64],
+) -> Change
+    requires { ⌜ ((m : Machine) × (found ≡ foundIn m o)) ⌝ }
+    ensures { λ k. ⌜ ((m : Machine) → found ≡ foundIn m o → Changes m k (three (now (c0 .exit)) (now (c1 .exit)) (now (c2 .exit))) (step o m (record { masks = three (now (m0 .entry)) (now (m1 .entry)) (now (m2 .entry)); dealer = now (dealer .entry) }) (three (now (c0 .entry)) (now (c1 .entry)) (now (c2 .entry))))) ⌝ }
+{
+    let s = found.sound;
+    let a = found.a;
+    let b = found.b;
+    let at = found.masks_at;
+    let ch = found.channels_at;
+    match o {
+        Order::Deal { d, e, v } => deal(s, found.dealer_at, d, e, v, dealer),
+        Order::Add { d, x, y } => attempt(at, ch, d, add(s, d, x, y, a, b), m0, m1, m2, c0, c1, c2),
+        Order::Scale { d, x, c } => {
+            attempt(at, ch, d, scale(s, d, x, c, a), m0, m1, m2, c0, c1, c2)
+        }
+        Order::Multiply { d, x, y } => {
+            let t = multiply(s, d, x, y, a, b);
+            attempt(at, ch, d, t, m0, m1, m2, c0, c1, c2)
+        }
+        Order::Decompose { d, x, l } => {
+            attempt(at, ch, d, decompose(s, d, x, l, a), m0, m1, m2, c0, c1, c2)
+        }
+        Order::Convert { d, x, f } => {
+            attempt(at, ch, d, convert(s, d, x, f, a), m0, m1, m2, c0, c1, c2)
+        }
+        Order::Shift { d, x, s: n } => {
+            attempt(at, ch, d, shift(s, d, x, n, a), m0, m1, m2, c0, c1, c2)
+        }
+        Order::Compose { d, x, f } => {
+            attempt(at, ch, d, compose(s, d, x, f, a), m0, m1, m2, c0, c1, c2)
+        }
+        Order::Open { x } => open(s, x, a, ch, c0, c1, c2),
+    }
+}
 
 // 01: every order gets an answer on every record, tape and channel; a refusal changes nothing.
 pub fn step(
@@ -31,17 +86,13 @@ pub fn step(
 ) -> Outcome
     ensures { λ r. ⌜ reported r (three (now (c0 .exit)) (now (c1 .exit)) (now (c2 .exit))) ≡ step o m (record { masks = three (now (m0 .entry)) (now (m1 .entry)) (now (m2 .entry)); dealer = now (dealer .entry) }) (three (now (c0 .entry)) (now (c1 .entry)) (now (c2 .entry))) ⌝ }
 {
-    match o {
-        Order::Deal { d, e, v } => deal(m, d, e, v, dealer),
-        Order::Add { d, x, y } => attempt(m, d, add(m, d, x, y), m0, m1, m2, c0, c1, c2),
-        Order::Scale { d, x, c } => attempt(m, d, scale(m, d, x, c), m0, m1, m2, c0, c1, c2),
-        Order::Multiply { d, x, y } => attempt(m, d, multiply(m, d, x, y), m0, m1, m2, c0, c1, c2),
-        Order::Decompose { d, x, l } => {
-            attempt(m, d, decompose(m, d, x, l), m0, m1, m2, c0, c1, c2)
-        }
-        Order::Convert { d, x, f } => attempt(m, d, convert(m, d, x, f), m0, m1, m2, c0, c1, c2),
-        Order::Shift { d, x, s } => attempt(m, d, shift(m, d, x, s), m0, m1, m2, c0, c1, c2),
-        Order::Compose { d, x, f } => attempt(m, d, compose(m, d, x, f), m0, m1, m2, c0, c1, c2),
-        Order::Open { x } => open(m, x, c0, c1, c2),
-    }
+    let found = Found {
+        sound: m.is_sound(),
+        a: m.register(source(o)),
+        b: m.register(other(o)),
+        masks_at: m.masks_at,
+        channels_at: m.channels_at,
+        dealer_at: m.dealer_at,
+    };
+    apply(m, decide(found, o, m0, m1, m2, dealer, c0, c1, c2))
 }

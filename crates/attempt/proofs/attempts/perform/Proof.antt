@@ -2,17 +2,16 @@
 use Prim.Native.Nat.{_+_}
 use borrow.Author.Needs.{needs}
 use Rattle.gate.specs.Places.{three}
-use Rattle.order.specs.Answers.{reported}
 use Rattle.attempt.proofs.AttemptLaw.{enough, long-enough, short}
 use Rattle.attempt.proofs.attempts.perform.Statement.{statement}
 use Rattle.attempt.proofs.attempts.perform.Tie as tie
 
 refusal : tie.Need-returns
-refusal c =
-    let known = c .before .before .before .before in
+refusal c = λ m of seat.
+    let known = c .before .before .before in
     let a = known .before .before .before .before .before .before .before .before .before .args in
-    short (a .t) (a .d) (a .m) (known .before .before .cost .ensures) (three (a .m0 .now) (a .m1 .now) (a .m2 .now)) (three (a .c0 .now) (a .c1 .now) (a .c2 .now))
-    (known .room .ensures) (c .before .before .v .given .1) (c .refused .ensures (three (a .c0 .now) (a .c1 .now) (a .c2 .now)))
+    short (a .t) (a .d) (known .before .before .cost .ensures) of (three (a .m0 .now) (a .m1 .now) (a .m2 .now)) (three (a .c0 .now) (a .c1 .now) (a .c2 .now))
+    (known .room .ensures) (c .before .v .given .1)
 
 fits : tie.Need-run-requires
 fits c κs =
@@ -20,23 +19,22 @@ fits c κs =
     let start = known .before .before .before .before .before .before .before .before .before in
     let a = start .args in
     let k = known .before .before .cost .result in
-    let long = long-enough (a .m) (k .bits + k .ring) (a .m0 .now) (a .m1 .now) (a .m2 .now) (a .c0 .now) (a .c1 .now) (a .c2 .now)
+    let long = long-enough (a .masks-at) (a .channels-at) (k .bits + k .ring) (a .m0 .now) (a .m1 .now) (a .m2 .now) (a .c0 .now) (a .c1 .now) (a .c2 .now)
     (known .room .ensures) (c .before .before .before .enum-told .given .1) in
-    (start .pre .0, (start .pre .1, (known .before .before .cost .ensures, (long .0, long .1))))
+    (start .pre, (known .before .before .cost .ensures, (long .0, long .1)))
 
 done : tie.Need-returns-2
-done c =
+done c = λ m of seat.
     let called = c .before .before .before .before .before .before in
     let told = called .before .before .before .before in
     let known = told .before .before in
     let a = known .before .before .before .before .before .before .before .before .before .args in
-    let left = called .run .last .1 .1 .1 .1 .1 .1 .1 in
-    enough (a .t) (a .d) (a .m) (known .before .before .cost .ensures) (three (a .m0 .now) (a .m1 .now) (a .m2 .now)) (three (a .c0 .now) (a .c1 .now) (a .c2 .now))
-    (known .room .ensures) {a = reported (called .run .result) (three (left .0) (left .1 .0) (left .1 .1 .0))}
-    (told .enum-told .given .1) (called .run .ensures)
+    let left = called .run .last .1 .1 .1 .1 .1 .1 .1 .1 in
+    enough (a .t) (a .d) (known .before .before .cost .ensures) of (three (a .m0 .now) (a .m1 .now) (a .m2 .now)) (three (a .c0 .now) (a .c1 .now) (a .c2 .now))
+    (known .room .ensures) {l = three (left .0) (left .1 .0) (left .1 .1 .0)} (told .enum-told .given .1) (called .run .ensures m of seat)
 
 pub perform-spec : {M : Type 1} → statement M
 perform-spec =
     tie.close
-    (tie.spec (λ c κs. search needs) (λ c. search needs) (λ c κs. search needs) (λ c. search needs) (λ c κs. search needs)
+    (tie.spec (λ c κs. search needs) (λ c. search needs) (λ c κs. search needs) (λ c. search needs)
     (λ c. search needs) fits refusal (λ c. search needs) (λ c. search needs) (λ c. search needs) done)

@@ -13,12 +13,12 @@ abbrev entry : tie.After-bad-items → tie.Start
 entry c = c .before .before .before .before .before .before .before .before .before .before
 
 refusal : tie.Need-returns
-refusal c =
-    let known = c .before .before in
+refusal c = λ m of seat.
+    let known = c .before in
     let start = entry known in
     let a = start .args in
-    bad-tried (a .t) (a .d) (a .m) (start .pre .1 .1 .0) (a .m0 .now) (a .m1 .now) (a .m2 .now) (a .c0 .now) (a .c1 .now) (a .c2 .now)
-    (known .bad-items .ensures) (c .before .if1 .taken) (c .refused .ensures (three (a .c0 .now) (a .c1 .now) (a .c2 .now)))
+    bad-tried (a .t) (a .d) (start .pre .1 .0) of (a .m0 .now) (a .m1 .now) (a .m2 .now) (a .c0 .now) (a .c1 .now) (a .c2 .now)
+    (known .bad-items .ensures) (c .if1 .taken)
 
 fits : tie.Need-words-requires
 fits c κs =
@@ -26,35 +26,30 @@ fits c κs =
     let start = entry known in
     let a = start .args in
     let n : ℕ = a .k .bits + a .k .ring in (
-      start .pre .1 .0,
-      supplied (start .pre .1 .0) (start .pre .1 .1 .0) (long-on n (a .m .«masks_at») (start .pre .1 .1 .1 .0))
-          (long-on n (a .m .«channels_at») (start .pre .1 .1 .1 .1)) (known .bad-items .ensures) (c .before .before .before .if1 .left),
+      start .pre .0,
+      supplied (start .pre .0) (start .pre .1 .0) (long-on n (a .masks-at) (start .pre .1 .1 .0))
+          (long-on n (a .channels-at) (start .pre .1 .1 .1)) (known .bad-items .ensures) (c .before .before .before .if1 .left),
     )
 
 done : tie.Need-returns-2
-done c =
-    let called = c .before .before .before .before .before .before .before .before .before in
+done c = λ m of seat.
+    let called = c .before .before .before .before .before .before .before .before in
     let known = called .before .before .before .before .before in
     let start = entry known in
     let a = start .args in
-    gates-tried (a .t) (a .d) (a .m) (start .pre .1 .1 .0) (a .m0 .now) (a .m1 .now) (a .m2 .now) (a .c0 .now) (a .c1 .now) (a .c2 .now)
-    (known .bad-items .ensures) (c .stored .result) (called .before .before .before .before .if1 .left)
-    (called .words .ensures) (c .before .before .left .ensures) (c .stored .ensures)
+    gates-tried (a .t) (a .d) (start .pre .1 .0) of (a .m0 .now) (a .m1 .now) (a .m2 .now) (a .c0 .now) (a .c1 .now) (a .c2 .now)
+    (known .bad-items .ensures) (called .before .before .before .before .if1 .left) seat
+    (called .words .ensures) (c .left .ensures)
 
-counted : tie.Need-add-stored
-counted c = omega (arith, entry (c .before .before .before .before .before .before .before .before .before .before .before .before .before) .pre .1 .1 .0 .few)
-
-seated : tie.Need-stored-requires
-seated c κs =
-    let start = entry (c .before .before .before .before .before .before .before .before .before .before .before .before .before) in
-    (start .pre .0, (start .pre .1 .1 .0 .few, omega arith))
+counted : tie.Need-add-gates
+counted c = omega (arith, entry (c .before .before .before .before .before .before .before .before .before .before .before .before) .pre .1 .0 .few)
 
 pub run-spec : {M : Type 1} → statement M
 run-spec =
     tie.close
     (tie.spec (λ c. search needs) (λ c. search needs) (λ c. search needs) (λ c. search needs) (λ c. search needs)
     (λ c. search needs) (λ c. search needs) (λ c. search needs) (λ c. search needs) (λ c. search needs) (λ c. search needs)
-    (λ c. search needs) (λ c κs. search needs) (λ c κs. search needs) refusal (λ c. search needs) (λ c. search needs)
+    (λ c. search needs) (λ c κs. search needs) refusal (λ c. search needs) (λ c. search needs)
     (λ c. search needs) (λ c. search needs) (λ c. search needs) (λ c. search needs) (λ c. search needs) (λ c. search needs)
-    (λ c. search needs) (λ c. search needs) (λ c. search needs) (λ c. search needs) fits (λ c κs. search needs)
-    counted seated (λ c. search needs) (λ c. search needs) (λ c. search needs) done)
+    (λ c. search needs) (λ c. search needs) (λ c. search needs) (λ c. search needs) fits counted
+    (λ c κs. search needs) (λ c. search needs) (λ c. search needs) (λ c. search needs) done)
