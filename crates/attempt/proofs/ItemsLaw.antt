@@ -1,12 +1,13 @@
 -- Items out of range: one tape item by item, one list of moduli after another, and what none out of range says.
 use Prim.Native.Nat.{ℕ, zero, suc, _+_, _-_, _<_, _≤_}
-use mathlib.Core.Bool.{Bool, false, true, or-assoc, _||_}
+use mathlib.Core.Bool.{Bool, false, true, or-assoc, or-false, _||_}
 use mathlib.Core.List.{List, [], _∷_, _++_}
 use mathlib.Core.Path.{_≡_, refl, ap, ap₂, sym, _∙_}
 use native.Mathlib.Nat.{add-zero}
 use native.Mathlib.Numerals.{one-add}
 use native.Mathlib.Omega.{arith}
-use borrow.Author.Tests.{le-leb, leb-false, lt-leb}
+use borrow.Author.Tests.{le-leb, leb-false, leb-true, lt-leb}
+use lib.Bits.{and-le-l, and-le-r, bitOr, or-add-and, or-lt}
 use lib.Dec.{leb}
 use lib.ListN.{drop, getD, length, length-replicate, replicate}
 use lib.Seq.{drop-drop, getD-drop}
@@ -42,6 +43,29 @@ module _ (p n k : ℕ) (items : List ℕ) {b : Bool} (h : b ≡ anyOutside (repl
   outside-end past =
       let none : n - k ≡ 0 = omega arith in
       sym (h ∙ ap (λ (j : ℕ). anyOutside (replicate j p) (drop k items)) none)
+
+-- two words have a bit above the lowest where one of them has
+pub either-wider : (a b : ℕ) → leb 2 (bitOr a b) ≡ leb 2 a || leb 2 b
+either-wider a b = go (leb 2 a) (leb 2 b) refl refl
+  where
+    go : (p q : Bool) → leb 2 a ≡ p → leb 2 b ≡ q → leb 2 (bitOr a b) ≡ p || q
+    go true q ha hb = le-leb 2 (bitOr a b) (omega (arith, leb-true 2 a ha, or-add-and a b, and-le-r a b))
+    go false true ha hb = le-leb 2 (bitOr a b) (omega (arith, leb-true 2 b hb, or-add-and a b, and-le-l a b))
+    go false false ha hb = lt-leb 2 (bitOr a b) (or-lt 1 a b (leb-false 2 a ha) (leb-false 2 b hb))
+
+-- items that are no bits: the bits of the first k together, then one more, and the end
+module _ (n k all : ℕ) (items : List ℕ) {b : Bool} (h : b ≡ leb 2 all || anyOutside (replicate (n - k) 2) (drop k items)) where
+  pub wider-on : k < n → b ≡ leb 2 (bitOr all (getD items k 0)) || anyOutside (replicate (n - (k + 1)) 2) (drop (k + 1) items)
+  wider-on below =
+      h ∙ ap (λ (q : Bool). leb 2 all || q) (outside-next 2 n k items below)
+      ∙ sym (or-assoc (leb 2 all) (leb 2 (getD items k 0)) (anyOutside (replicate (n - (k + 1)) 2) (drop (k + 1) items)))
+      ∙ ap (λ (q : Bool). q || anyOutside (replicate (n - (k + 1)) 2) (drop (k + 1) items)) (sym (either-wider all (getD items k 0)))
+
+  pub wider-end : n ≤ k → leb 2 all ≡ b
+  unfolding anyOutside
+  wider-end past =
+      let none : n - k ≡ 0 = omega arith in
+      sym (h ∙ ap (λ (j : ℕ). leb 2 all || anyOutside (replicate j 2) (drop k items)) none ∙ or-false (leb 2 all))
 
 outside-append : (ms ns items : List ℕ) → anyOutside (ms ++ ns) items ≡ anyOutside ms items || anyOutside ns (drop (length ms) items)
 unfolding anyOutside

@@ -2,6 +2,7 @@
 ghost use mathlib.Core.List.{_++_};
 ghost use mathlib.Core.Path.{_≡_};
 ghost use Prim.Native.Nat.{_+_, _≤_};
+ghost use lib.Dec.{leb};
 ghost use lib.ListN.{length, replicate};
 ghost use Rattle.gate.specs.Places.{three};
 ghost use Rattle.circuit.specs.Lent.{Long};
@@ -32,13 +33,36 @@ fn any_outside(p: u64, n: u64, m0: &[u64], m1: &[u64], m2: &[u64]) -> bool
     outside(p, n, m0) | (outside(p, n, m1) | outside(p, n, m2))
 }
 
+// The bits that the first n items have: 2 or more where one of them is no bit.
+fn united(n: u64, items: &[u64]) -> u64
+    requires { ⌜ n ≤ length (now items) ⌝ }
+    ensures { λ r. ⌜ leb 2 r ≡ anyOutside (replicate n 2) (now (items .entry)) ⌝ }
+{
+    let mut all = 0;
+    let mut k = 0;
+    while k < n {
+        let i = k as usize;
+        all = all | items[i];
+        k += 1;
+    }
+    all
+}
+
+// Whether one of the first n items of the three tapes is no bit.
+fn any_wider(n: u64, m0: &[u64], m1: &[u64], m2: &[u64]) -> bool
+    requires { ⌜ Long n (now m0) (now m1) (now m2) ⌝ }
+    ensures { λ r. ⌜ r ≡ anyBad (replicate n 2) (three (now (m0 .entry)) (now (m1 .entry)) (now (m2 .entry))) ⌝ }
+{
+    2 <= (united(n, m0) | (united(n, m1) | united(n, m2)))
+}
+
 // "some item it would take is out of range": gates on bits first, then those in a ring.
 pub fn bad_items(k: Cost, m0: &[u64], m1: &[u64], m2: &[u64]) -> bool
     requires { ⌜ Long (k .bits + k .ring) (now m0) (now m1) (now m2) ⌝ }
     ensures { λ r. ⌜ r ≡ anyBad (replicate (k .bits) 2 ++ replicate (k .ring) (k .modulus)) (three (now (m0 .entry)) (now (m1 .entry)) (now (m2 .entry))) ⌝ }
 {
     let n = k.bits;
-    let first = any_outside(2, n, m0, m1, m2);
+    let first = any_wider(n, m0, m1, m2);
     let at = n as usize;
     first | any_outside(k.modulus, k.ring, &m0[at..], &m1[at..], &m2[at..])
 }

@@ -1,9 +1,10 @@
 -- What a stage's loop keeps, and stages one after another up to the result.
-use Prim.Native.Nat.{ℕ, _+_, _-_, _≤_, _^_}
+use Prim.Native.Nat.{ℕ, _+_, _-_, _<_, _≤_, _^_}
 use mathlib.Core.List.{List, _∷_, _++_}
 use mathlib.Core.Path.{_≡_, ap, fun-ext, refl, sym, _∙_}
+use native.Mathlib.Omega.{arith}
 use lib.ListN.{length}
-use Rattle.ring.specs.Rings.{modulus}
+use Rattle.ring.specs.Rings.{bitOf, modulus}
 use Rattle.gate.specs.Places.{InRange, Place, parts, tabled, three}
 use Rattle.gate.specs.declared.sharing.Sharing.{Sharing}
 use Rattle.circuit.specs.Bits.{gather}
@@ -12,9 +13,10 @@ use Rattle.circuit.specs.Decompose.{Digits, carryGate, decomposeGates, digit, r
 use Rattle.circuit.specs.Lent.{Left, Long, Ran}
 use Rattle.circuit.specs.Orders.{decomposition}
 use Rattle.circuit.specs.Sharings.{fourTimes, zeros}
+use Rattle.circuit.proofs.BitsLaw.{stored-bit}
 use Rattle.circuit.proofs.LentLaw.{AsLong, left-of, long-less, long-on, long-same, partFrom, partsFrom, putBack, ran-three}
 use Rattle.decompose.specs.Turns.{Ended}
-use Rattle.decompose.specs.Words.{digitsOf, finished, totalled}
+use Rattle.decompose.specs.Words.{bitsAt, digitsOf, finished, stored, totalled}
 use Rattle.decompose.proofs.GateLaw.{digits-gather}
 
 -- what a stage's loop keeps beside its gates: channels c at entry and d now, and words w of b bits
@@ -22,6 +24,26 @@ pub record Kept (n k b : ℕ) (w : Sharing) (c₀ c₁ c₂ d₀ d₁ d₂ : Lis
   pub within : k ≤ n
   pub same : AsLong c₀ c₁ c₂ d₀ d₁ d₂
   pub words : InRange (2 ^ b) w
+
+-- and the bits that it stored last, as bit k of its words
+pub record Last (k : ℕ) (w last : Sharing) : Type 0 where
+  pub is : last ≡ bitsAt w k
+  pub bits : InRange 2 last
+
+pub stored-last : (k : ℕ) {w b r : Sharing} → InRange (2 ^ k) w → InRange 2 b → r ≡ stored w b k → Last k r b
+stored-last k hw hb e =
+    record { is = rw (e, stored-bit k (hw .zero) (hb .zero), stored-bit k (hw .one) (hb .one), stored-bit k (hw .two) (hb .two)); bits = hb }
+
+pub zeros-last : {w : Sharing} → w ≡ zeros → Last 1 w w
+unfolding bitOf
+zeros-last e = record { is = rw e; bits = rw e (omega arith) }
+
+lowest : {w : ℕ} → w < 2 → bitOf w 0 ≡ w
+unfolding bitOf
+lowest h = omega arith
+
+pub first-last : {w : Sharing} → InRange 2 w → Last 0 w w
+first-last h = record { is = rw (lowest (h .zero), lowest (h .one), lowest (h .two)); bits = h }
 
 -- so the next turn has room
 pub room-next : {n k b : ℕ} {w : Sharing} {c₀ c₁ c₂ d₀ d₁ d₂ : List ℕ}

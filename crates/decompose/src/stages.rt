@@ -11,6 +11,7 @@ ghost use Rattle.decompose.specs.Words.{digitsOf, totalled};
 use crate::turns::carry_turn;
 use crate::turns::raising_turn;
 use crate::turns::running_turn;
+use crate::words::store;
 use circuit::items_at;
 use circuit::zeros;
 use gate::Sharing;
@@ -62,20 +63,23 @@ pub fn running_stage(
     ensures { λ r. ⌜ Ran (upto (λ k. runningGate (k + 1)) n) (digitsOf x carries zeros zeros) (three (now (m0 .entry)) (now (m1 .entry)) (now (m2 .entry))) (three (now (c0 .entry)) (now (c1 .entry)) (now (c2 .entry))) (digitsOf x carries r zeros) (three (now (c0 .exit)) (now (c1 .exit)) (now (c2 .exit))) ⌝ }
 {
     let mut running = zeros();
+    let mut last = running;
     let mut j = 0;
     while j < n {
         let k = j as usize;
         let t = items_at(m0, m1, m2, k);
-        running = running_turn(
+        let next = j + 1;
+        last = running_turn(
             x,
             carries,
-            running,
-            j + 1,
+            last,
+            next,
             t,
             &mut c0[k..],
             &mut c1[k..],
             &mut c2[k..],
         );
+        running = store(running, last, next + 1);
         j += 1;
     }
     running
@@ -101,19 +105,13 @@ pub fn raising_stage(
     ensures { λ r. ⌜ ((x carries running : Sharing) → total ≡ totalled x carries running → Ran (upto raisingGate n) (digitsOf x carries running first) (three (now (m0 .entry)) (now (m1 .entry)) (now (m2 .entry))) (three (now (c0 .entry)) (now (c1 .entry)) (now (c2 .entry))) (digitsOf x carries running r) (three (now (c0 .exit)) (now (c1 .exit)) (now (c2 .exit)))) ⌝ }
 {
     let mut raising = first;
+    let mut last = first;
     let mut j = 0;
     while j < n {
         let k = j as usize;
         let t = items_at(m0, m1, m2, k);
-        raising = raising_turn(
-            total,
-            raising,
-            j,
-            t,
-            &mut c0[k..],
-            &mut c1[k..],
-            &mut c2[k..],
-        );
+        last = raising_turn(total, last, j, t, &mut c0[k..], &mut c1[k..], &mut c2[k..]);
+        raising = store(raising, last, j + 1);
         j += 1;
     }
     raising

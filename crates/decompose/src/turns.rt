@@ -7,7 +7,7 @@ ghost use Rattle.circuit.specs.Decompose.{carryGate, raisingGate, runningGate, 
 ghost use Rattle.circuit.specs.Lent.{Long, Turned};
 ghost use Rattle.circuit.specs.Sharings.{zeros};
 ghost use Rattle.decompose.specs.Turns.{majorityWords};
-ghost use Rattle.decompose.specs.Words.{bitsXor, digitsOf, totalled};
+ghost use Rattle.decompose.specs.Words.{bitsAt, bitsXor, digitsOf, stored, totalled};
 use crate::words::bits;
 use crate::words::store;
 use crate::words::xors;
@@ -76,11 +76,11 @@ pub fn carry_turn(
     store(carries, carry, j + 1)
 }
 
-// Running carry j + 1, from sum bit, carry and running carry j.
+// Running carry j + 1, from sum bit, carry and running carry j, which is the last.
 pub fn running_turn(
     x: Sharing,
     carries: Sharing,
-    running: Sharing,
+    last: Sharing,
     j: u64,
     t: Sharing,
     c0: &mut [u64],
@@ -88,17 +88,15 @@ pub fn running_turn(
     c2: &mut [u64],
 ) -> Sharing
     requires bit { ⌜ j < 63 ⌝ }
-    requires words { ⌜ InRange (2 ^ (j + 1)) running ⌝ }
+    requires last { ⌜ InRange 2 last ⌝ }
     requires items { ⌜ InRange 2 t ⌝ }
     requires room { ⌜ Long 1 (now c0) (now c1) (now c2) ⌝ }
-    ensures turned { λ r. ⌜ Turned (runningGate j) (digitsOf x carries running zeros) t (digitsOf x carries r zeros) (now (c0 .entry)) (now (c1 .entry)) (now (c2 .entry)) (now (c0 .exit)) (now (c1 .exit)) (now (c2 .exit)) ⌝ }
-    ensures below { λ r. ⌜ InRange (2 ^ (j + 1 + 1)) r ⌝ }
+    ensures turned { λ b. ⌜ ((running r : Sharing) → last ≡ bitsAt running j → r ≡ stored running b (j + 1) → Turned (runningGate j) (digitsOf x carries running zeros) t (digitsOf x carries r zeros) (now (c0 .entry)) (now (c1 .entry)) (now (c2 .entry)) (now (c0 .exit)) (now (c1 .exit)) (now (c2 .exit))) ⌝ }
+    ensures below { λ b. ⌜ InRange 2 b ⌝ }
 {
     let sum = bits(x, j);
     let second = bits(carries, j);
-    let third = bits(running, j);
-    let carry = majority(sum, second, third, t, c0, c1, c2);
-    store(running, carry, j + 1)
+    majority(sum, second, last, t, c0, c1, c2)
 }
 
 // z = T0 OR T1, the first carry of the increment.
@@ -120,10 +118,10 @@ pub fn zero_turn(
     xors(xors(left, right), z)
 }
 
-// Carry j + 1 of the increment, from bit j + 2 of T and carry j.
+// Carry j + 1 of the increment, from bit j + 2 of T and carry j, which is the last.
 pub fn raising_turn(
     total: Sharing,
-    raising: Sharing,
+    last: Sharing,
     j: u64,
     t: Sharing,
     c0: &mut [u64],
@@ -131,14 +129,12 @@ pub fn raising_turn(
     c2: &mut [u64],
 ) -> Sharing
     requires bit { ⌜ j < 62 ⌝ }
-    requires words { ⌜ InRange (2 ^ (j + 1)) raising ⌝ }
+    requires last { ⌜ InRange 2 last ⌝ }
     requires items { ⌜ InRange 2 t ⌝ }
     requires room { ⌜ Long 1 (now c0) (now c1) (now c2) ⌝ }
-    ensures turned { λ r. ⌜ ((x carries running : Sharing) → total ≡ totalled x carries running → Turned (raisingGate j) (digitsOf x carries running raising) t (digitsOf x carries running r) (now (c0 .entry)) (now (c1 .entry)) (now (c2 .entry)) (now (c0 .exit)) (now (c1 .exit)) (now (c2 .exit))) ⌝ }
-    ensures below { λ r. ⌜ InRange (2 ^ (j + 1 + 1)) r ⌝ }
+    ensures turned { λ b. ⌜ ((x carries running raising r : Sharing) → total ≡ totalled x carries running → last ≡ bitsAt raising j → r ≡ stored raising b (j + 1) → Turned (raisingGate j) (digitsOf x carries running raising) t (digitsOf x carries running r) (now (c0 .entry)) (now (c1 .entry)) (now (c2 .entry)) (now (c0 .exit)) (now (c1 .exit)) (now (c2 .exit))) ⌝ }
+    ensures below { λ b. ⌜ InRange 2 b ⌝ }
 {
     let left = bits(total, j + 2);
-    let right = bits(raising, j);
-    let z = bit_gate(left, right, t, c0, c1, c2);
-    store(raising, z, j + 1)
+    bit_gate(left, last, t, c0, c1, c2)
 }

@@ -9,7 +9,7 @@ returns c =
     let first = c .before .before .before .before in
     let a = first .before .before .before .before .args in
     bad-parts (a .k .bits) 2 (replicate (a .k .ring) (a .k .modulus)) (a .m0 .now) (a .m1 .now) (a .m2 .now)
-    (first .any-outside .ensures) (c .any-outside2 .ensures)
+    (first .any-wider .ensures) (c .any-outside .ensures)
 
 pub bad-items-spec : {M : Type 1} → statement M
 bad-items-spec =

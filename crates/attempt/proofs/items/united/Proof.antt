@@ -1,0 +1,33 @@
+-- Invariant: an item is no bit where the items seen have a wider bit, or one from k on is.
+use Prim.Native.Nat.{_-_, _≤_}
+use mathlib.Core.Bool.{_||_}
+use mathlib.Core.Path.{_≡_}
+use native.Mathlib.Nat.{sub-zero}
+use native.Mathlib.Omega.{arith}
+use lib.Dec.{leb}
+use lib.ListN.{drop, replicate}
+use Rattle.machine.specs.Checks.{anyOutside}
+use Rattle.attempt.proofs.ItemsLaw.{wider-end, wider-on}
+use Rattle.attempt.proofs.items.united.Statement.{statement}
+use Rattle.attempt.proofs.items.united.Tie as tie
+
+abbrev Inv-loop : tie.InvT-loop
+Inv-loop n items all₀ k₀ all k = (k ≤ n) × (anyOutside (replicate n 2) items ≡ leb 2 all || anyOutside (replicate (n - k) 2) (drop k items))
+
+abbrev μ-loop : tie.MeasureT-loop
+μ-loop n items all₀ k₀ all k = n - k
+
+again : tie.Need-loop-again Inv-loop μ-loop
+again c =
+    let at = c .before .before in
+    (omega arith, wider-on (at .before .args .n) (at .loop .k) (at .loop .all) (at .before .args .items .now) (at .loop .inv .1) (omega arith))
+
+returns : tie.Need-returns Inv-loop μ-loop
+returns c =
+    let at = c .before in
+    wider-end (at .before .args .n) (at .loop .k) (at .loop .all) (at .before .args .items .now) (at .loop .inv .1) (omega arith)
+
+pub united-spec : {M : Type 1} → statement M
+united-spec =
+    tie.close
+    (tie.spec Inv-loop μ-loop (λ c. (omega arith, rw sub-zero)) (λ c. omega arith) (λ c. omega arith) (λ c. omega arith) (λ c. omega arith) again returns)
