@@ -108,7 +108,8 @@ module _ (m : Machine) (x : ℕ) (T : Tapes) (c : Place → List ℕ) {s : Bool}
   unfolding opened
   open-done {z} {v} {d} fine value shares words =
       let is : applied (change.Opened v) m d ≡ opened x m c = rw (words, shares, value, place, of .first) in
+      let seat = there s x _ fine m (of .sound) in
       record {
-        fits = there s x _ fine m (of .sound) .channels;
+        fits = (seat .masks, seat .channels, seat .dealer);
         is = is ∙ step-performed (Open x) m T c (checks-are (sym fine));
       }

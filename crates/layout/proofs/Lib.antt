@@ -1,3 +1,4 @@
 pub mod ReadLaw
+pub mod SaysLaw
 pub mod Theorems
 pub mod WriteLaw

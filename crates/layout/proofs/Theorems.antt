@@ -40,7 +40,7 @@ order-back (Shift d x s) = refl
 order-back (Compose d x f) = refl
 order-back (Open x) = refl
 
-register-back : (r : Register) (ws : List ℕ) → registerOf (registerWords r ++ ws) ≡ Found r
+pub register-back : (r : Register) (ws : List ℕ) → registerOf (registerWords r ++ ws) ≡ Found r
 unfolding registerOf registerFrom ringOf
 register-back Empty ws = refl
 register-back (Number R13 x) ws = refl

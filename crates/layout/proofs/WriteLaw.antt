@@ -1,20 +1,18 @@
 -- Registers written one after another, each to the front of the part that it is lent.
-use Prim.Native.Nat.{ℕ, _+_, _*_, _-_, _<_}
+use Prim.Native.Nat.{ℕ, suc, _+_, _*_, _-_, _<_, _≤_}
 use mathlib.Core.List.{List, [], _∷_, _++_, append-assoc, append-nil}
 use mathlib.Core.Path.{_≡_, refl, sym, ap, _∙_}
 use native.Mathlib.Nat.{le-refl}
-use native.Mathlib.Numerals.{add-one}
 use native.Mathlib.Omega.{arith}
 use borrow.Rule.Slice.PartMut.{midOf, putMid}
-use lib.ListN.{drop, drop-of-length-le, getD, length, length-append, length-drop, set, take}
-use lib.Seq.{drop-at, drop-drop, length-take-le, sets-eq, take-all, take-at, take-suc}
+use lib.ListN.{drop, drop-of-length-le, length, length-append, length-drop, set, take, take-append-drop}
+use lib.Seq.{drop-at, drop-drop, length-take-le, set-split, sets-eq, take-at}
 use Rattle.circuit.proofs.LentLaw.{part-is}
 use Rattle.machine.specs.Registers.{slot}
-use Rattle.machine.specs.declared.registers.Machine.{Machine}
 use Rattle.machine.specs.declared.registers.Register.{Register}
 use Rattle.machine.specs.declared.registers.Register.the-variants.{Bits, Empty, Number}
 use Rattle.machine.specs.declared.registers.Slot.{Slot}
-use Rattle.layout.specs.Layout.{machineWords, registerWords, slotsWords}
+use Rattle.layout.specs.Layout.{registerWords, slotsWords}
 
 five : (r : Register) → length (registerWords r) ≡ 5
 five Empty = refl
@@ -47,32 +45,45 @@ lent-on k u p q d ys hp hd hy =
     ∙ ap (λ (l : List ℕ). p ++ l) (append-nil ys ∙ part)
     ∙ sym (append-assoc p q (drop (k + length q) u))
 
--- one register more
-pub one-written : (ss : List Slot) (i : ℕ) (u d ys : List ℕ) → i < length ss
-    → d ≡ slotsWords (take i ss) ++ drop (5 * i) u
-    → ys ≡ registerWords (getD ss i (slot Empty) .reg) ++ drop 5 (midOf (5 * i) (length d - 5 * i) d)
-    → putMid (5 * i) (length d - 5 * i) d ys ≡ slotsWords (take (i + 1) ss) ++ drop (5 * (i + 1)) u
-unfolding slotsWords
-one-written ss i u d ys h hd hy =
-    let r = getD ss i (slot Empty) .reg in
-    let count : length (slotsWords (take i ss)) ≡ 5 * i = slots-length (take i ss) ∙ ap (λ (n : ℕ). 5 * n) (length-take-le i ss (omega arith)) in
-    let words : slotsWords (take (i + 1) ss) ≡ slotsWords (take i ss) ++ registerWords r
-    = rw (add-one i, take-suc ss i (slot Empty) h, slots-append) (ap (λ (l : List ℕ). slotsWords (take i ss) ++ l) (append-nil (registerWords r))) in
-    let place : 5 * i + length (registerWords r) ≡ 5 * (i + 1) = omega (arith, five r) in
-    lent-on (5 * i) u (slotsWords (take i ss)) (registerWords r) d ys count hd
-    (hy ∙ ap (λ (n : ℕ). registerWords r ++ drop n (midOf (5 * i) (length d - 5 * i) d)) (sym (five r)))
-    ∙ ap (λ (l : List ℕ). l ++ drop (5 * i + length (registerWords r)) u) (sym words)
-    ∙ ap (λ (n : ℕ). slotsWords (take (i + 1) ss) ++ drop n u) place
+-- the words from register i on
+module _ (ss : List Slot) (i : ℕ) (t : List ℕ) (h : i ≤ length ss) where
+  count : length (slotsWords (take i ss)) ≡ 5 * i
+  count = slots-length (take i ss) ∙ ap (λ (n : ℕ). 5 * n) (length-take-le i ss h)
 
--- all registers, then three stores
-pub all-written : (m : Machine) (i : ℕ) (u d : List ℕ) → length (m .slots) ≡ 16 → i ≡ 16 → length u ≡ 83
-    → d ≡ slotsWords (take i (m .slots)) ++ drop (5 * i) u
-    → set (set (set d 80 (m .«masks_at»)) 81 (m .«channels_at»)) 82 (m .«dealer_at») ≡ machineWords m
-unfolding machineWords
-all-written m i u d full last long hd =
-    let at-end : d ≡ slotsWords (m .slots) ++ drop 80 u
-    = hd ∙ rw (last, take-all 16 (m .slots) (omega arith)) in
-    let count : length (slotsWords (m .slots)) ≡ 80 = omega (arith, slots-length (m .slots)) in
-    let size : length d ≡ 83 = rw (at-end, length-append, length-drop) (omega arith) in
-    sets-eq (m .«masks_at» ∷ m .«channels_at» ∷ m .«dealer_at» ∷ []) d 80 (omega arith)
-    ∙ rw (drop-of-length-le d {i = 83} (omega arith), at-end, take-at (slotsWords (m .slots)) (drop 80 u) 80 count, append-nil)
+  split : slotsWords ss ++ t ≡ slotsWords (take i ss) ++ (slotsWords (drop i ss) ++ t)
+  split =
+      ap (λ (l : List Slot). slotsWords l ++ t) (sym (take-append-drop i ss))
+      ∙ ap (λ (l : List ℕ). l ++ t) (slots-append (take i ss) (drop i ss))
+      ∙ append-assoc (slotsWords (take i ss)) (slotsWords (drop i ss)) t
+
+  pub from-register : drop (5 * i) (slotsWords ss ++ t) ≡ slotsWords (drop i ss) ++ t
+  from-register =
+      ap (drop (5 * i)) split ∙ drop-at (slotsWords (take i ss)) (slotsWords (drop i ss) ++ t) (5 * i) count
+
+-- one register changed
+pub one-changed : (ss : List Slot) (d : ℕ) (r : Register) (t ws ys : List ℕ) → d < length ss → ws ≡ slotsWords ss ++ t
+    → ys ≡ registerWords r ++ drop 5 (midOf (5 * d) (length ws - 5 * d) ws)
+    → putMid (5 * d) (length ws - 5 * d) ws ys ≡ slotsWords (set ss d (slot r)) ++ t
+unfolding slotsWords
+one-changed ss d r t ws ys h e hy =
+    let p = slotsWords (take d ss) in
+    let q = registerWords r in
+    let S = slotsWords (drop (suc d) ss) in
+    let place : 5 * d + length q ≡ 5 * suc d = omega (arith, five r) in
+    let before : ws ≡ p ++ drop (5 * d) ws
+    = e ∙ split ss d t (omega arith) ∙ ap (λ (l : List ℕ). p ++ l) (sym (ap (drop (5 * d)) e ∙ from-register ss d t (omega arith))) in
+    let after : drop (5 * d + length q) ws ≡ S ++ t
+    = ap (λ (n : ℕ). drop n ws) place ∙ ap (drop (5 * suc d)) e ∙ from-register ss (suc d) t (omega arith) in
+    let new : slotsWords (set ss d (slot r)) ≡ p ++ (q ++ S)
+    = ap slotsWords (set-split ss d (slot r) h) ∙ slots-append (take d ss) (slot r ∷ drop (suc d) ss) in
+    lent-on (5 * d) ws p q ws ys (count ss d t (omega arith)) before
+    (hy ∙ ap (λ (n : ℕ). q ++ drop n (midOf (5 * d) (length ws - 5 * d) ws)) (sym (five r)))
+    ∙ ap (λ (l : List ℕ). (p ++ q) ++ l) after
+    ∙ sym (append-assoc (p ++ q) S t)
+    ∙ ap (λ (l : List ℕ). l ++ t) (append-assoc p q S ∙ sym new)
+
+-- three positions changed
+pub positions-changed : (ss : List Slot) (ws : List ℕ) (a b c : ℕ) → length ss ≡ 16 → length ws ≡ 83 → take 80 ws ≡ slotsWords ss
+    → set (set (set ws 80 a) 81 b) 82 c ≡ slotsWords ss ++ (a ∷ b ∷ c ∷ [])
+positions-changed ss ws a b c full long e =
+    sets-eq (a ∷ b ∷ c ∷ []) ws 80 (omega arith) ∙ rw (drop-of-length-le ws {i = 83} (omega arith), e, append-nil)

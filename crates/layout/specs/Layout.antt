@@ -2,13 +2,14 @@
 use Prim.Native.Nat.{ℕ, zero, suc}
 use mathlib.Core.Bool.{cond, false, true, _&&_}
 use mathlib.Core.List.{List, [], _∷_, _++_}
+use mathlib.Core.Path.{_≡_}
 use lib.Dec.{eqb}
 use lib.ListN.{drop, getD, length}
 use Rattle.ring.specs.Rings.{ringOf, widthOf}
 use Rattle.ring.specs.declared.rings.OfWidth.{OfWidth}
 use Rattle.ring.specs.declared.rings.OfWidth.the-variants.{Named, NoRing}
 use Rattle.gate.specs.declared.sharing.Sharing.{Sharing}
-use Rattle.machine.specs.Registers.{emptyMachine, slot}
+use Rattle.machine.specs.Registers.{slot, sound}
 use Rattle.machine.specs.declared.answers.Answer.{Answer}
 use Rattle.machine.specs.declared.orders.Order.{Order}
 use Rattle.machine.specs.declared.orders.Order.the-variants.{Add, Compose, Convert, Deal, Decompose, Multiply, Open, Scale, Shift}
@@ -19,7 +20,7 @@ use Rattle.machine.specs.declared.registers.Slot.{Slot}
 use Rattle.order.specs.Answers.{gatesOf, refusalOf, valueOf}
 use Rattle.layout.specs.declared.orders.OrderRead.{OrderRead}
 use Rattle.layout.specs.declared.orders.OrderRead.the-variants as read
-use Rattle.layout.specs.declared.records.Read.{Read}
+use Rattle.layout.specs.declared.records.Seen.{Seen}
 use Rattle.layout.specs.declared.registers.RegisterRead.{RegisterRead}
 use Rattle.layout.specs.declared.registers.RegisterRead.the-variants.{Found, NoRegister}
 
@@ -103,10 +104,15 @@ machineFrom (suc n) ws = before (registerOf ws) (machineFrom n (drop 5 ws))
 unfoldable pub machineOf : List ℕ → MachineFound
 machineOf ws = cond (eqb (length ws) 83) (machineFrom 16 ws) none
 
--- the empty machine stands where there is none
-abbrev pub readOf : MachineFound → Read
-readOf (found m) = record { ok = true; machine = m }
-readOf none = record { ok = false; machine = emptyMachine }
+-- words that are laid out as a record
+pub record Says (ws : List ℕ) (m : Machine) : Type 0 where
+  pub words : ws ≡ machineWords m
+  pub registers : length (m .slots) ≡ 16
+
+-- whether words say a record, and "sound" of that
+abbrev pub seenOf : MachineFound → Seen
+seenOf (found m) = record { ok = true; sound = sound m }
+seenOf none = record { ok = false; sound = false }
 
 -- an opening's last two words are 0
 abbrev pub openFrom : (x a b : ℕ) → OrderRead

@@ -1,75 +1,107 @@
-// A machine record in 83 words: sixteen registers, then three positions.
+// A machine record in 83 words: sixteen registers, then three positions. It is read and changed where it stands.
 ghost use mathlib.Core.Path.{_≡_};
-ghost use lib.ListN.{length};
-ghost use Rattle.layout.specs.Layout.{machineOf, machineWords, none, readOf};
+ghost use Prim.Native.Nat.{_+_, _<_, _^_};
+ghost use lib.ListN.{getD, length};
+ghost use Rattle.machine.specs.Registers.{registerAt};
+ghost use Rattle.machine.specs.Step.{moved};
+ghost use Rattle.order.specs.Changes.{Fits, changed};
+ghost use Rattle.layout.specs.Layout.{Says, machineOf, seenOf};
 use crate::registers::RegisterRead;
 use crate::registers::read_register;
 use crate::registers::write_register;
 use machine::Machine;
 use machine::Register;
-use machine::Slot;
+use order::Change;
 
-// A record; or none, with the empty machine.
-pub struct Read {
+// Whether words say a record, and a sound one.
+pub struct Seen {
     pub ok: bool,
-    pub machine: Machine,
+    pub sound: bool,
 }
 
 const WORDS: usize = 83;
 
-// Reads a record. An unsound one is a record too.
-pub fn read_machine(words: &[u64]) -> Read
-    ensures { λ r. ⌜ r ≡ readOf (machineOf (now (words .entry))) ⌝ }
+const MILLION: u64 = 1_000_000;
+
+// Looks at every word. An unsound record is a record too.
+pub fn see(words: &[u64]) -> Seen
+    ensures { λ r. ⌜ r ≡ seenOf (machineOf (now (words .entry))) ⌝ }
 {
     if words.len() != WORDS {
-        return no_record();
+        return Seen {
+            ok: false,
+            sound: false,
+        };
     }
-    let empty = Slot {
-        reg: Register::Empty,
-    };
-    let mut slots = [empty; 16];
+    let mut sound = true;
     let mut i = 0;
     while i < 16 {
         let at = 5 * i;
         let RegisterRead::Found(r) = read_register(&words[at..]) else {
-            return no_record();
+            return Seen {
+                ok: false,
+                sound: false,
+            };
         };
-        slots[i] = Slot { reg: r };
+        sound = sound & r.is_sound();
         i += 1;
     }
-    let machine = Machine {
-        slots,
-        masks_at: words[80],
-        channels_at: words[81],
-        dealer_at: words[82],
-    };
-    Read { ok: true, machine }
-}
-
-// What stands for no record.
-fn no_record() -> Read
-    ensures { λ r. ⌜ r ≡ readOf none ⌝ }
-{
-    Read {
-        ok: false,
-        machine: Machine::empty(),
+    let placed = (words[80] <= MILLION) & ((words[81] <= MILLION) & (words[82] <= MILLION));
+    Seen {
+        ok: true,
+        sound: sound & placed,
     }
 }
 
-// Writes a record.
-pub fn write_machine(m: Machine, words: &mut [u64])
+// Register k of a record, empty past the last.
+pub fn register_at(words: &[u64], k: u64) -> Register
     requires { ⌜ length (now words) ≡ 83 ⌝ }
-    ensures { λ u. ⌜ now (words .exit) ≡ machineWords m ⌝ }
+    ensures { λ r. ⌜ ((m : Machine) → Says (now (words .entry)) m → r ≡ registerAt m k) ⌝ }
 {
-    let mut i = 0;
-    while i < 16 {
-        let s = m.slots[i];
-        let r = s.reg;
-        let at = 5 * i;
-        write_register(r, &mut words[at..]);
-        i += 1;
+    if 15 < k {
+        return Register::Empty;
     }
-    words[80] = m.masks_at;
-    words[81] = m.channels_at;
-    words[82] = m.dealer_at;
+    let at = 5 * (k as usize);
+    let w = read_register(&words[at..]);
+    match w {
+        RegisterRead::Found(r) => r,
+        RegisterRead::NoRegister => Register::Empty,
+    }
+}
+
+// The positions of a record, risen.
+fn rise(gates: u64, sent: u64, items: u64, words: &mut [u64])
+    requires long { ⌜ length (now words) ≡ 83 ⌝ }
+    requires masks { ⌜ getD (now words) 80 0 + gates < 2 ^ 64 ⌝ }
+    requires channels { ⌜ getD (now words) 81 0 + sent < 2 ^ 64 ⌝ }
+    requires dealer { ⌜ getD (now words) 82 0 + items < 2 ^ 64 ⌝ }
+    ensures { λ _. ⌜ ((m : Machine) → Says (now (words .entry)) m → Says (now (words .exit)) (moved m gates sent items)) ⌝ }
+{
+    let a = words[80] + gates;
+    let b = words[81] + sent;
+    let c = words[82] + items;
+    words[80] = a;
+    words[81] = b;
+    words[82] = c;
+}
+
+// The words of a record with a change.
+pub fn write_change(k: Change, words: &mut [u64])
+    requires { ⌜ ((m : Machine) × Says (now words) m × Fits m k) ⌝ }
+    ensures { λ _. ⌜ ((m : Machine) → Says (now (words .entry)) m → Fits m k → Says (now (words .exit)) (changed k m)) ⌝ }
+{
+    match k {
+        Change::Refused(_) => {}
+        Change::Stored {
+            d,
+            register,
+            gates,
+            items,
+        } => {
+            let at = 5 * (d as usize);
+            write_register(register, &mut words[at..]);
+            rise(gates, gates, items, words)
+        }
+        Change::Opened { value: _ } => rise(0, 1, 0, words),
+    }
 }

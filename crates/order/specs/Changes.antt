@@ -3,8 +3,10 @@ use Prim.Native.Nat.{ℕ, _≤_}
 use mathlib.Core.List.{List}
 use mathlib.Core.Path.{_≡_}
 use Rattle.gate.specs.Places.{Place}
-use Rattle.machine.specs.Registers.{million}
+use Rattle.machine.specs.Registers.{million, withRegister}
 use Rattle.machine.specs.Step.{Outcome, moved, refused, stored}
+use Rattle.machine.specs.declared.answers.Answer.{Answer}
+use Rattle.machine.specs.declared.answers.Answer.the-variants as answer
 use Rattle.machine.specs.declared.registers.Machine.{Machine}
 use Rattle.order.specs.Answers.{numberOf}
 use Rattle.order.specs.Tasks.{Seated}
@@ -17,11 +19,22 @@ applied (Refused w) m c = refused (numberOf w) m c
 applied (Stored d r gates items) m c = stored d r gates items m c
 applied (Opened v) m c = record { machine = moved m 0 1 0; refusal = 0; value = v; gates = 0; channels = c }
 
+-- the record that it leaves, and the answer
+abbrev pub changed : Change → Machine → Machine
+changed (Refused w) m = m
+changed (Stored d r gates items) m = withRegister (moved m gates gates items) d r
+changed (Opened v) m = moved m 0 1 0
+
+abbrev pub answerOf : Change → Answer
+answerOf (Refused w) = answer.Refused w
+answerOf (Stored d r gates items) = answer.Done 0 gates
+answerOf (Opened v) = answer.Done v 0
+
 -- a destination below 16, and positions with room to rise
 abbrev pub Fits : Machine → Change → Type 0
 Fits m (Refused w) = Unit {0}
 Fits m (Stored d r gates items) = Seated m d × (gates ≤ 296) × (items ≤ 2)
-Fits m (Opened v) = m .«channels_at» ≤ million
+Fits m (Opened v) = (m .«masks_at» ≤ million) × (m .«channels_at» ≤ million) × (m .«dealer_at» ≤ million)
 
 -- a change that fits a record, and is this outcome there
 pub record Changes (m : Machine) (k : Change) (c : Place → List ℕ) (o : Outcome) : Type 0 where

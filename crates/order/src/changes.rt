@@ -4,7 +4,7 @@ ghost use mathlib.Core.Path.{_≡_};
 ghost use Prim.Native.Nat.{ℕ};
 ghost use Rattle.gate.specs.Places.{Place};
 ghost use Rattle.order.specs.Answers.{reported};
-ghost use Rattle.order.specs.Changes.{Fits, applied};
+ghost use Rattle.order.specs.Changes.{Fits, answerOf, applied};
 use crate::answers::Outcome;
 use machine::Answer;
 use machine::Machine;
@@ -23,6 +23,24 @@ pub enum Change {
     Opened {
         value: u64,
     },
+}
+
+impl Change {
+    // What the order answers.
+    pub fn answer(self) -> Answer
+        ensures { λ a. ⌜ a ≡ answerOf self ⌝ }
+    {
+        match self {
+            Change::Refused(w) => Answer::Refused(w),
+            Change::Stored {
+                d: _,
+                register: _,
+                gates,
+                items: _,
+            } => Answer::Done { value: 0, gates },
+            Change::Opened { value } => Answer::Done { value, gates: 0 },
+        }
+    }
 }
 
 // The record that a change leaves, and the answer.

@@ -1,15 +1,15 @@
 // The machine's step: one order on a record, with the tapes and channels that are lent.
 mod found;
 
+pub use found::Found;
+pub use found::other;
+pub use found::source;
 ghost use mathlib.Core.Path.{_≡_};
 ghost use Rattle.gate.specs.Places.{three};
 ghost use Rattle.machine.specs.Step.{step};
 ghost use Rattle.order.specs.Answers.{reported};
 ghost use Rattle.order.specs.Changes.{Changes};
 ghost use Rattle.step.specs.Found.{foundIn};
-use crate::found::Found;
-use crate::found::other;
-use crate::found::source;
 use attempt::attempt;
 use exchange::deal;
 use exchange::open;
@@ -27,7 +27,7 @@ use order::scale;
 use order::shift;
 
 // What an order does to a record, by what it has found there.
-fn decide(
+pub fn decide(
     found: Found,
     o: Order,
     m0: &[u64],

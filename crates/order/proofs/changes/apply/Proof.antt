@@ -22,7 +22,12 @@ rises c κs =
     (omega arith, (omega arith, omega arith))
 
 rises-opened : tie.Need-moved-requires-2
-rises-opened c κs = let room = fits-opened c in (omega arith, (omega arith, omega arith))
+rises-opened c κs =
+    let fits = fits-opened c in
+    let masks = fits .0 in
+    let channels = fits .1 in
+    let dealer = fits .2 in
+    (omega arith, (omega arith, omega arith))
 
 pub apply-spec : {M : Type 1} → statement M
 apply-spec =
