@@ -1,10 +1,9 @@
 //! The library under test, called as the reference is.
 
 #[path = "../../include/survey.rs"]
-mod survey;
+pub mod survey;
 
 use reference::machine::Lent;
-pub use survey::prepare;
 
 pub fn step(order: &[u64], record: &mut [u64], lent: &mut Lent, answer: &mut [u64]) -> u64 {
     let [c0, c1, c2] = &mut lent.channels;

@@ -124,7 +124,7 @@ fn run_tapes(cases: u64, seed: u64, tally: &mut Tally) {
     for number in 1..=cases {
         let case = tapes::Case::new(&mut draw);
         let expected = tape_outcome(prepare_words, &case);
-        let found = tape_outcome(interface::prepare, &case);
+        let found = tape_outcome(interface::survey::prepare, &case);
         tally.case(expected == found, || {
             let text = difference(&expected, &found);
             format!("tape {number}: {text} {}", case.text())
