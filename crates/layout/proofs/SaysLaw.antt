@@ -1,7 +1,7 @@
 -- Words laid out as a record: its registers and positions in them, and a change of them.
 use Prim.Native.Nat.{ℕ, suc, _+_, _*_, _-_, _<_, _≤_, _^_}
 use mathlib.Core.List.{List, [], _∷_, _++_, append-assoc}
-use mathlib.Core.Path.{_≡_, refl, sym, ap, _∙_}
+use mathlib.Core.Path.{_≡_, sym, ap, _∙_}
 use native.Mathlib.Omega.{arith}
 use borrow.Rule.Slice.PartMut.{midOf, putMid}
 use lib.ListN.{List·getD-eq-default, drop, getD, length, length-set, set, take}

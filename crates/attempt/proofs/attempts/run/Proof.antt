@@ -2,7 +2,6 @@
 use Prim.Native.Nat.{ℕ, _+_}
 use native.Mathlib.Omega.{arith}
 use borrow.Author.Needs.{needs}
-use Rattle.gate.specs.Places.{three}
 use Rattle.circuit.proofs.LentLaw.{long-on}
 use Rattle.attempt.proofs.AttemptLaw.{bad-tried, gates-tried}
 use Rattle.attempt.proofs.SupplyLaw.{supplied}

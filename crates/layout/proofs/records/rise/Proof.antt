@@ -1,6 +1,4 @@
-use native.Mathlib.Omega.{arith}
 use borrow.Author.Needs.{needs}
-use lib.ListN.{length-set}
 use Rattle.layout.proofs.SaysLaw.{risen}
 use Rattle.layout.proofs.records.rise.Statement.{statement}
 use Rattle.layout.proofs.records.rise.Tie as tie
