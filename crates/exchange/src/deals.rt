@@ -12,6 +12,7 @@ ghost use Rattle.order.specs.Changes.{Changes};
 ghost use Rattle.exchange.specs.Exchanges.{Dealing, dealChecks, dealtRegister, numberChecks};
 use gate::Sharing;
 use machine::Answer;
+use machine::MILLION;
 use machine::Machine;
 use machine::Order;
 use machine::Refusal;
@@ -20,8 +21,6 @@ use order::Change;
 use order::too_few;
 use ring::OfWidth;
 use ring::Ring;
-
-const MILLION: u64 = 1_000_000;
 
 // Item k of what is left of a tape from a position on, 0 past its end.
 fn item(tape: &[u64], at: u64, k: u64) -> u64

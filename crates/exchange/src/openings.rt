@@ -18,14 +18,13 @@ use machine::Order;
 use machine::Refusal;
 use machine::Register;
 use order::Change;
-
-const MILLION: u64 = 1_000_000;
+use order::uneven;
 
 // Checks 8 and 11: room for a word at a position of channels of these lengths.
 fn channels_why(l0: u64, l1: u64, l2: u64, at: u64) -> Answer
     ensures { λ a. ⌜ refusalOf a ≡ firstMet (channelChecks (three l0 l1 l2) at) ⌝ }
 {
-    if (l0 != l1) | ((l1 != l2) | (MILLION < l0)) {
+    if uneven(l0, l1, l2) {
         return Answer::Refused(Refusal::BadLength);
     }
     if l0 <= at {

@@ -9,6 +9,7 @@ ghost use Rattle.layout.specs.Layout.{Says, machineOf, seenOf};
 use crate::registers::RegisterRead;
 use crate::registers::read_register;
 use crate::registers::write_register;
+use machine::MILLION;
 use machine::Machine;
 use machine::Register;
 use order::Change;
@@ -20,8 +21,6 @@ pub struct Seen {
 }
 
 const WORDS: usize = 83;
-
-const MILLION: u64 = 1_000_000;
 
 // Looks at every word. An unsound record is a record too.
 pub fn see(words: &[u64]) -> Seen

@@ -7,6 +7,7 @@ mod registers;
 pub use answers::Answer;
 pub use answers::Refusal;
 pub use orders::Order;
+pub use registers::MILLION;
 pub use registers::Machine;
 pub use registers::Register;
 pub use registers::Slot;

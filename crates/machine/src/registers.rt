@@ -26,7 +26,8 @@ pub struct Machine {
     pub dealer_at: u64,
 }
 
-const MILLION: u64 = 1_000_000;
+// 01: "each position is at most 1,000,000", and so is each lent run's length.
+pub const MILLION: u64 = 1_000_000;
 
 impl Register {
     // Each sub-share in range, and 1 to 59 bits.

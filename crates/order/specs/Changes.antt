@@ -4,22 +4,16 @@ use mathlib.Core.List.{List}
 use mathlib.Core.Path.{_≡_}
 use Rattle.gate.specs.Places.{Place}
 use Rattle.machine.specs.Registers.{million, withRegister}
-use Rattle.machine.specs.Step.{Outcome, moved, refused, stored}
+use Rattle.machine.specs.Step.{Outcome, moved}
 use Rattle.machine.specs.declared.answers.Answer.{Answer}
 use Rattle.machine.specs.declared.answers.Answer.the-variants as answer
 use Rattle.machine.specs.declared.registers.Machine.{Machine}
-use Rattle.order.specs.Answers.{numberOf}
+use Rattle.order.specs.Answers.{reported}
 use Rattle.order.specs.Tasks.{Seated}
 use Rattle.order.specs.declared.changes.Change.{Change}
 use Rattle.order.specs.declared.changes.Change.the-variants.{Opened, Refused, Stored}
 
--- a change of a record, beside the channels that the order leaves; an opening writes "One word a wire, no gate"
-abbrev pub applied : Change → Machine → (Place → List ℕ) → Outcome
-applied (Refused w) m c = refused (numberOf w) m c
-applied (Stored d r gates items) m c = stored d r gates items m c
-applied (Opened v) m c = record { machine = moved m 0 1 0; refusal = 0; value = v; gates = 0; channels = c }
-
--- the record that it leaves, and the answer
+-- the record that a change leaves, and the answer; an opening writes "One word a wire, no gate"
 abbrev pub changed : Change → Machine → Machine
 changed (Refused w) m = m
 changed (Stored d r gates items) m = withRegister (moved m gates gates items) d r
@@ -29,6 +23,10 @@ abbrev pub answerOf : Change → Answer
 answerOf (Refused w) = answer.Refused w
 answerOf (Stored d r gates items) = answer.Done 0 gates
 answerOf (Opened v) = answer.Done v 0
+
+-- the outcome, beside the channels that the order leaves
+abbrev pub applied : Change → Machine → (Place → List ℕ) → Outcome
+applied k m c = reported (record { machine = changed k m; answer = answerOf k }) c
 
 -- a destination below 16, and positions with room to rise
 abbrev pub Fits : Machine → Change → Type 0

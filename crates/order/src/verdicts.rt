@@ -12,12 +12,11 @@ ghost use Rattle.order.specs.Answers.{numberOf, verdictOf};
 ghost use Rattle.order.specs.Attempts.{beginChecks};
 use crate::answers::Verdict;
 use crate::answers::refuse_if;
+use machine::MILLION;
 use machine::Refusal;
 use machine::Register;
 use ring::OfWidth;
 use ring::Ring;
-
-const MILLION: u64 = 1_000_000;
 
 // Checks 1 and 2, of an order that names up to three registers.
 pub fn begin(sound: bool, d: u64, x: u64, y: u64) -> Verdict

@@ -30,12 +30,12 @@ abbrev pub tapes : (t₀ t₁ t₂ dealer : List ℕ) → Tapes
 tapes t₀ t₁ t₂ dealer = record { masks = three t₀ t₁ t₂; dealer = dealer }
 
 -- "wires of 1,024 words", zero before the first order
-abbrev pub silence : List ℕ
-silence = replicate 1024 0
+abbrev pub zeroWords : List ℕ
+zeroWords = replicate 1024 0
 
 -- no line yet
 unfoldable pub started : State
-started = state emptyMachine (tapes [] [] [] []) (three silence silence silence)
+started = state emptyMachine (tapes [] [] [] []) (three zeroWords zeroWords zeroWords)
 
 -- what a line leaves, and what it is answered
 pub record Turned : Type 0 where
