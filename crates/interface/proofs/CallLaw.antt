@@ -6,27 +6,21 @@ use mathlib.Core.Path.{_≡_, ap, refl, _∙_}
 use native.Mathlib.Omega.{arith}
 use borrow.Author.Tests.{eq-eqb, ne-eqb}
 use lib.Dec.{eqb}
-use lib.ListN.{drop-of-length-le, getD, length, set}
+use lib.ListN.{drop-of-length-le, length, set}
 use lib.Seq.{sets-eq}
 use Rattle.gate.specs.Places.{Place}
 use Rattle.machine.specs.Checks.{Tapes}
 use Rattle.machine.specs.Step.{Outcome, step}
-use Rattle.machine.specs.Registers.{registerAt, sound}
+use Rattle.machine.specs.Registers.{sound}
 use Rattle.machine.specs.declared.answers.Answer.{Answer}
 use Rattle.machine.specs.declared.orders.Order.{Order}
 use Rattle.machine.specs.declared.registers.Machine.{Machine}
-use Rattle.machine.specs.declared.registers.Register.{Register}
-use Rattle.layout.specs.Layout.{MachineFound, Says, answerWords, found, machineOf, machineWords, none, orderOf, seenOf}
-use Rattle.layout.proofs.SaysLaw.{positions-said}
+use Rattle.layout.specs.Layout.{MachineFound, answerWords, found, machineOf, none, orderOf, seenOf}
 use Rattle.layout.specs.declared.orders.OrderRead.{OrderRead}
 use Rattle.layout.specs.declared.orders.OrderRead.the-variants.{Found, NoOrder}
 use Rattle.layout.specs.declared.records.Seen.{Seen}
 use Rattle.order.specs.Answers.{refusalOf}
-use Rattle.order.specs.Changes.{Changes, answerOf, applied, changed}
-use Rattle.order.specs.declared.changes.Change.{Change}
-use Rattle.order.specs.declared.changes.Change.the-variants.{Opened, Refused, Stored}
-use Rattle.step.specs.Found.{foundIn, otherOf, sourceOf}
-use Rattle.step.proofs.StepLaw.{found-is}
+use Rattle.step.specs.Words.{Reports}
 use Rattle.tape.specs.Tapes.{countOf, outcome, prepared}
 use Rattle.tape.specs.Tapes as tapes
 use Rattle.tape.specs.declared.tapes.Prepared.{Prepared}
@@ -67,24 +61,10 @@ pub seen-found : (f : MachineFound) {r : Seen} → r ≡ seenOf f → not (r .ok
 seen-found (found m) e t = (m, refl, ap (λ (r : Seen). r .sound) e)
 seen-found none e t = let wrong : true ≡ false = cc (e, t) in let never : _≡_ {A = ℕ} 0 1 = cc in absurd (omega arith)
 
--- what an order finds in the words of a record
-pub found-in : (m : Machine) (o : Order) (ws : List ℕ) {s : Bool} {x y : ℕ} {a b : Register} → Says ws m
-    → s ≡ sound m → x ≡ sourceOf o → a ≡ registerAt m x → y ≡ otherOf o → b ≡ registerAt m y
-    → record { sound = s; a = a; b = b; «masks_at» = getD ws 80 0; «channels_at» = getD ws 81 0; «dealer_at» = getD ws 82 0 } ≡ foundIn m o
-found-in m o ws says is source first other second =
-    let at = positions-said says in
-    rw (at .0, at .1 .0, at .1 .1) (found-is m o is source first other second)
-
-left-changed : (k : Change) (m : Machine) (c : Place → List ℕ)
-    → left (refusalOf (answerOf k)) (machineWords (changed k m)) (answerWords (answerOf k)) c ≡ leftBy (applied k m c)
-left-changed (Refused w) m c = refl
-left-changed (Stored d r gates items) m c = refl
-left-changed (Opened v) m c = refl
-
--- the words written of a change
-pub change-written : {n : ℕ} {ws a : List ℕ} {g : Answer} (k : Change) (m : Machine) {c : Place → List ℕ} {x : Outcome}
-    → g ≡ answerOf k → n ≡ refusalOf g → Says ws (changed k m) → a ≡ answerWords g → Changes m k c x → left n ws a c ≡ leftBy x
-change-written k m {c} e en says ea done = rw (en, ea, says .words, e) (left-changed k m c ∙ ap leftBy (done .is))
+-- what an order leaves in words
+pub step-left : {n : ℕ} {ws words : List ℕ} {a : Answer} {c : Place → List ℕ} {x : Outcome}
+    → Reports ws a c x → n ≡ refusalOf a → words ≡ answerWords a → left n ws words c ≡ leftBy x
+step-left {ws} {words} {c = c} {x = x} told en ea = rw (en, ea, told .words .words) (ap leftBy (told .is))
 
 two-written : (a : List ℕ) (n k : ℕ) → length a ≡ 2 → set (set a 0 n) 1 k ≡ n ∷ k ∷ []
 two-written a n k h = sets-eq (n ∷ k ∷ []) a 0 (omega arith) ∙ rw (drop-of-length-le a {i = 2} (omega arith))

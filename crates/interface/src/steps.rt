@@ -5,15 +5,10 @@ ghost use Rattle.interface.specs.Calls.{left, stepWords};
 use crate::MALFORMED;
 use layout::OrderRead;
 use layout::read_order;
-use layout::register_at;
 use layout::see;
 use layout::write_answer;
-use layout::write_change;
 use order::refusal;
-use step::Found;
-use step::decide;
-use step::other;
-use step::source;
+use step::step_words;
 
 // 01's step; MALFORMED where the words of order, record or answer are in no layout, and then nothing changes.
 #[no_mangle]
@@ -41,17 +36,7 @@ pub extern "C" fn survey_step(
     match read_order(order) {
         OrderRead::NoOrder => MALFORMED,
         OrderRead::Found(o) => {
-            let found = Found {
-                sound: seen.sound,
-                a: register_at(record, source(o)),
-                b: register_at(record, other(o)),
-                masks_at: record[80],
-                channels_at: record[81],
-                dealer_at: record[82],
-            };
-            let k = decide(found, o, m0, m1, m2, dealer, c0, c1, c2);
-            write_change(k, record);
-            let given = k.answer();
+            let given = step_words(seen.sound, o, record, m0, m1, m2, dealer, c0, c1, c2);
             write_answer(given, answer);
             refusal(given)
         }

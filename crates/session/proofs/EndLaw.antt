@@ -11,8 +11,8 @@ use Rattle.line.specs.declared.commands.Command.{Command}
 use Rattle.session.specs.Kept.{atLine, standingOf, turnedOf}
 use Rattle.session.specs.Outputs.{Turned, replied, taken}
 use Rattle.session.specs.Standings.{Standing, afterEnd, afterLast, lineTaken, printedAt, printedLast, standing}
-use Rattle.session.specs.declared.sessions.Progress.{Progress}
-use Rattle.session.specs.declared.sessions.Turn.{Turn}
+use Rattle.session.specs.declared.progress.Progress.{Progress}
+use Rattle.session.specs.declared.progress.Turn.{Turn}
 
 module _ (w : Standing) where
   pub late-after : million ≤ w .lines → standing (w .state) (w .lines) started ≡ afterEnd w
@@ -42,15 +42,15 @@ module _ (w : Standing) where
   last-unseen e = rw e (refl, refl)
 
 -- said of what the code keeps
-module _ (t₀ t₁ t₂ dealer : List ℕ) (c : Place → List ℕ) where
-  pub late-kept : (p q : Progress) → q ≡ atLine (p .session) (p .lines) → million ≤ p .lines
-      → standingOf q t₀ t₁ t₂ dealer c ≡ afterEnd (standingOf p t₀ t₁ t₂ dealer c)
-  late-kept p q e h = ap (λ (x : Progress). standingOf x t₀ t₁ t₂ dealer c) e ∙ late-after (standingOf p t₀ t₁ t₂ dealer c) h
+module _ (ws t₀ t₁ t₂ dealer : List ℕ) (c : Place → List ℕ) where
+  pub late-kept : (p q : Progress) → q ≡ atLine (p .counts) (p .lines) → million ≤ p .lines
+      → standingOf q ws t₀ t₁ t₂ dealer c ≡ afterEnd (standingOf p ws t₀ t₁ t₂ dealer c)
+  late-kept p q e h = ap (λ (x : Progress). standingOf x ws t₀ t₁ t₂ dealer c) e ∙ late-after (standingOf p ws t₀ t₁ t₂ dealer c) h
 
-  pub line-kept : (w : Standing) (t : Turn) (q : Progress) → q ≡ atLine (t .session) (w .lines + 1)
-      → turnedOf t t₀ t₁ t₂ dealer c ≡ lineTaken w → w .lines < million → standingOf q t₀ t₁ t₂ dealer c ≡ afterEnd w
+  pub line-kept : (w : Standing) (t : Turn) (q : Progress) → q ≡ atLine (t .counts) (w .lines + 1)
+      → turnedOf t ws t₀ t₁ t₂ dealer c ≡ lineTaken w → w .lines < million → standingOf q ws t₀ t₁ t₂ dealer c ≡ afterEnd w
   line-kept w t q e is h =
-      ap (λ (x : Progress). standingOf x t₀ t₁ t₂ dealer c) e ∙ line-after w (turnedOf t t₀ t₁ t₂ dealer c) is h
+      ap (λ (x : Progress). standingOf x ws t₀ t₁ t₂ dealer c) e ∙ line-after w (turnedOf t ws t₀ t₁ t₂ dealer c) is h
 
 -- by the command that was read
 pub by-reading : {t : Turned} {k : Command} (w : Standing) → k ≡ commandIn (w .reading) → t ≡ taken (w .state) k → t ≡ lineTaken w

@@ -3,6 +3,7 @@ pub mod ChunkLaw
 pub mod EndLaw
 pub mod FeedLaw
 pub mod OutputLaw
+pub mod RecordLaw
 pub mod ReplyLaw
 pub mod TurnLaw
 pub mod Theorems

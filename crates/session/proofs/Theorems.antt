@@ -32,6 +32,7 @@ use Rattle.session.specs.Outputs.{State, declined, itemTaken, ordered, o
 use Rattle.session.specs.Standings.{afterBytes, afterEnd, printedAt, printedBy, readTo}
 use Rattle.session.specs.Theorems as theorem
 use Rattle.session.proofs.OutputLaw as outputs
+use Rattle.session.proofs.RecordLaw.{empty-in}
 use Rattle.session.proofs.TurnLaw.{item-over, masks-over}
 
 pub output-printed : theorem.Output
@@ -53,7 +54,7 @@ stops = outputs.stops
 
 pub starts : theorem.Starts
 unfolding started
-starts t₀ t₁ t₂ dealer = refl
+starts t₀ t₁ t₂ dealer = rw empty-in refl
 
 prints-13 : (n : ℕ) (s : State) (l : List ℕ) (ls : List (List ℕ)) {k : Command} → commandOf l ≡ k → taken s k ≡ declined s
     → theorem.Prints13 n s l ls

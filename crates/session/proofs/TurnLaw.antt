@@ -10,17 +10,20 @@ use lib.ListN.{length, length-set, set, take}
 use lib.Seq.{length-take-le, take-suc-set}
 use borrow.Rule.Slice.PartMut.{midOf}
 use Rattle.gate.specs.Places.{Place, p0}
+use Rattle.machine.specs.Checks.{Tapes}
 use Rattle.machine.specs.Step as defined
 use Rattle.machine.specs.Step.{step}
 use Rattle.machine.specs.declared.orders.Order.{Order}
+use Rattle.machine.specs.declared.answers.Answer.{Answer}
 use Rattle.machine.specs.declared.registers.Machine.{Machine}
-use Rattle.order.specs.Answers.{refusalOf, reported, valueOf}
-use Rattle.order.specs.declared.answers.Outcome.{Outcome}
+use Rattle.order.specs.Answers.{refusalOf, valueOf}
+use Rattle.step.specs.Words.{Reports}
 use Rattle.line.specs.declared.commands.Command.{Command}
-use Rattle.session.specs.Kept.{DealerFits, MasksFit, stateOf}
+use Rattle.session.specs.Kept.{DealerFits, MasksFit, RecordFits, machineIn, stateOf}
 use Rattle.session.specs.Outputs.{State, Turned, declined, itemTaken, masksTaken, most, ordered, state, taken, tapes, turned}
+use Rattle.session.specs.declared.progress.Counts.{Counts}
 use Rattle.session.specs.declared.replies.Reply.the-variants.{Says, Silent}
-use Rattle.session.specs.declared.sessions.Session.{Session}
+use Rattle.session.proofs.RecordLaw.{machine-in, record-fits, stays-sound}
 
 -- one item more at the end of those taken
 added : (n : ℕ) (t : List ℕ) (i : ℕ) → length t ≡ most → n < most → take (n + 1) (set t n i) ≡ take n t ++ (i ∷ [])
@@ -68,28 +71,39 @@ part : (n : ℕ) (t : List ℕ) → midOf 0 (n - 0) t ≡ take n t
 part n t = ap (λ (k : ℕ). take k t) (sub-zero n)
 
 -- an order's outcome, with the numbers of its answer
-module _ (s : Session) (o : Order) (t₀ t₁ t₂ dealer : List ℕ) (c : Place → List ℕ) where
-  pub order-taken : (left : Outcome) (d : Place → List ℕ) {r v : ℕ}
-      → reported left d
-      ≡ step o (s .machine) (tapes (midOf 0 (s .masks - 0) t₀) (midOf 0 (s .masks - 0) t₁) (midOf 0 (s .masks - 0) t₂) (midOf 0 (s .dealer - 0) dealer)) c
-      → r ≡ refusalOf (left .answer) → v ≡ valueOf (left .answer)
-      → turned (state (left .machine) (stateOf s t₀ t₁ t₂ dealer c .tapes) d) (Says r v) ≡ ordered (stateOf s t₀ t₁ t₂ dealer c) o
+module _ (n : Counts) (o : Order) (ws t₀ t₁ t₂ dealer : List ℕ) (c : Place → List ℕ) where
+  abbrev lent : Tapes
+  lent =
+      tapes (midOf 0 (n .masks - 0) t₀) (midOf 0 (n .masks - 0) t₁) (midOf 0 (n .masks - 0) t₂) (midOf 0 (n .dealer - 0) dealer)
+
+  pub order-taken : (vs : List ℕ) (a : Answer) (d : Place → List ℕ) {r v : ℕ} → Reports vs a d (step o (machineIn ws) lent c)
+      → r ≡ refusalOf a → v ≡ valueOf a
+      → turned (state (machineIn vs) (stateOf n ws t₀ t₁ t₂ dealer c .tapes) d) (Says r v) ≡ ordered (stateOf n ws t₀ t₁ t₂ dealer c) o
   unfolding ordered
-  order-taken left d e refusal value =
-      let T = stateOf s t₀ t₁ t₂ dealer c .tapes in
-      let is : reported left d ≡ step o (s .machine) T c
-      = e ∙ rw (part (s .masks) t₀, part (s .masks) t₁, part (s .masks) t₂, part (s .dealer) dealer) refl in
-      ap₂ (λ (r v : ℕ). turned (state (left .machine) T d) (Says r v)) refusal value
-      ∙ ap (λ (x : defined.Outcome). turned (state (x .machine) T (x .channels)) (Says (x .refusal) (x .value))) is
+  order-taken vs a d told refusal value =
+      let T = stateOf n ws t₀ t₁ t₂ dealer c .tapes in
+      let x = step o (machineIn ws) lent c in
+      let same : x ≡ step o (machineIn ws) T c
+      = rw (part (n .masks) t₀, part (n .masks) t₁, part (n .masks) t₂, part (n .dealer) dealer) refl in
+      rw (machine-in vs (x .machine) (told .words))
+      (ap₂ (λ (r v : ℕ). turned (state (x .machine) T d) (Says r v)) refusal value
+      ∙ ap (λ (x : defined.Outcome). turned (state (x .machine) T (x .channels)) (Says (x .refusal) (x .value))) (told .is ∙ same))
+
+  -- and the record's words fit again
+  pub order-fits : (vs : List ℕ) (a : Answer) (d : Place → List ℕ) → Reports vs a d (step o (machineIn ws) lent c) → RecordFits ws → RecordFits vs
+  order-fits vs a d told fits = record-fits vs _ (told .words) (stays-sound o (machineIn ws) lent c (fits .sound))
 
 -- the runs have room as before
-pub same-masks : {s u : Session} {t₀ t₁ t₂ : List ℕ} → u .masks ≡ s .masks → MasksFit s t₀ t₁ t₂ → MasksFit u t₀ t₁ t₂
+pub same-masks : {s u : Counts} {t₀ t₁ t₂ : List ℕ} → u .masks ≡ s .masks → MasksFit s t₀ t₁ t₂ → MasksFit u t₀ t₁ t₂
 same-masks e fit = record { zero = fit .zero; one = fit .one; two = fit .two; few = omega (arith, e, fit .few) }
 
-pub same-dealer : {s u : Session} {dealer : List ℕ} → u .dealer ≡ s .dealer → DealerFits s dealer → DealerFits u dealer
+pub same-dealer : {s u : Counts} {dealer : List ℕ} → u .dealer ≡ s .dealer → DealerFits s dealer → DealerFits u dealer
 same-dealer e fit = record { run = fit .run; few = omega (arith, e, fit .few) }
 
-pub more-masks : (s : Session) {u : Session} (t₀ t₁ t₂ : List ℕ) (i₀ i₁ i₂ : ℕ) → u .masks ≡ s .masks + 1 → s .masks < most
+pub counts-same : {s u : Counts} {t₀ t₁ t₂ dealer : List ℕ} → u ≡ s → MasksFit s t₀ t₁ t₂ × DealerFits s dealer → MasksFit u t₀ t₁ t₂ × DealerFits u dealer
+counts-same e fit = (same-masks (ap (λ (n : Counts). n .masks) e) (fit .0), same-dealer (ap (λ (n : Counts). n .dealer) e) (fit .1))
+
+pub more-masks : (s : Counts) {u : Counts} (t₀ t₁ t₂ : List ℕ) (i₀ i₁ i₂ : ℕ) → u .masks ≡ s .masks + 1 → s .masks < most
     → MasksFit s t₀ t₁ t₂ → MasksFit u (set t₀ (s .masks) i₀) (set t₁ (s .masks) i₁) (set t₂ (s .masks) i₂)
 more-masks s t₀ t₁ t₂ i₀ i₁ i₂ e h fit =
     record {
@@ -99,7 +113,7 @@ more-masks s t₀ t₁ t₂ i₀ i₁ i₂ e h fit =
       few = omega (arith, e);
     }
 
-pub more-dealer : (s : Session) {u : Session} (dealer : List ℕ) (i : ℕ) → u .dealer ≡ s .dealer + 1 → s .dealer < most
+pub more-dealer : (s : Counts) {u : Counts} (dealer : List ℕ) (i : ℕ) → u .dealer ≡ s .dealer + 1 → s .dealer < most
     → DealerFits s dealer → DealerFits u (set dealer (s .dealer) i)
 more-dealer s dealer i e h fit = record { run = length-set dealer (s .dealer) i ∙ fit .run; few = omega (arith, e) }
 

@@ -1,43 +1,62 @@
 -- What the code keeps by value and is lent, as the definitions' state.
 use Prim.Native.Nat.{ℕ, _≤_}
+use mathlib.Core.Bool.{true}
 use mathlib.Core.List.{List}
 use mathlib.Core.Path.{_≡_}
-use lib.ListN.{length, take}
+use lib.ListN.{length, replicate, take}
 use Rattle.gate.specs.Places.{Place}
-use Rattle.machine.specs.Registers.{emptyMachine}
+use Rattle.machine.specs.Registers.{emptyMachine, sound}
+use Rattle.machine.specs.declared.registers.Machine.{Machine}
+use Rattle.layout.specs.Layout.{MachineFound, Says, found, machineOf, none}
 use Rattle.line.specs.Readings.{started}
 use Rattle.session.specs.Outputs.{State, Turned, most, state, tapes, turned}
 use Rattle.session.specs.Standings.{Standing, standing}
-use Rattle.session.specs.declared.sessions.Progress.{Progress}
-use Rattle.session.specs.declared.sessions.Session.{Session}
-use Rattle.session.specs.declared.sessions.Turn.{Turn}
+use Rattle.session.specs.declared.progress.Counts.{Counts}
+use Rattle.session.specs.declared.progress.Progress.{Progress}
+use Rattle.session.specs.declared.progress.Turn.{Turn}
 
--- the record and counts of lines before the first; and before a line of which no byte was read
-abbrev pub noLines : Session
-noLines = record { machine = emptyMachine; masks = 0; dealer = 0 }
+-- the counts and the record's words before the first line; and before a line of which no byte was read
+abbrev pub noLines : Counts
+noLines = record { masks = 0; dealer = 0 }
 
-abbrev pub atLine : Session → ℕ → Progress
-atLine s n = record { session = s; lines = n; reading = started }
+abbrev pub emptyWords : List ℕ
+emptyWords = replicate 83 0
+
+abbrev pub atLine : Counts → ℕ → Progress
+atLine n k = record { counts = n; lines = k; reading = started }
+
+-- the record that words say; where they say none, the empty machine stands for it
+abbrev pub machineElse : MachineFound → Machine
+machineElse (found m) = m
+machineElse none = emptyMachine
+
+unfoldable pub machineIn : List ℕ → Machine
+machineIn ws = machineElse (machineOf ws)
 
 -- the lines taken of each tape stand at the start of its run
-abbrev pub stateOf : Session → (t₀ t₁ t₂ dealer : List ℕ) → (Place → List ℕ) → State
-stateOf s t₀ t₁ t₂ dealer c =
-    state (s .machine) (tapes (take (s .masks) t₀) (take (s .masks) t₁) (take (s .masks) t₂) (take (s .dealer) dealer)) c
+abbrev pub stateOf : Counts → (ws t₀ t₁ t₂ dealer : List ℕ) → (Place → List ℕ) → State
+stateOf n ws t₀ t₁ t₂ dealer c =
+    state (machineIn ws) (tapes (take (n .masks) t₀) (take (n .masks) t₁) (take (n .masks) t₂) (take (n .dealer) dealer)) c
 
-abbrev pub turnedOf : Turn → (t₀ t₁ t₂ dealer : List ℕ) → (Place → List ℕ) → Turned
-turnedOf t t₀ t₁ t₂ dealer c = turned (stateOf (t .session) t₀ t₁ t₂ dealer c) (t .reply)
+abbrev pub turnedOf : Turn → (ws t₀ t₁ t₂ dealer : List ℕ) → (Place → List ℕ) → Turned
+turnedOf t ws t₀ t₁ t₂ dealer c = turned (stateOf (t .counts) ws t₀ t₁ t₂ dealer c) (t .reply)
 
-abbrev pub standingOf : Progress → (t₀ t₁ t₂ dealer : List ℕ) → (Place → List ℕ) → Standing
-standingOf p t₀ t₁ t₂ dealer c = standing (stateOf (p .session) t₀ t₁ t₂ dealer c) (p .lines) (p .reading)
+abbrev pub standingOf : Progress → (ws t₀ t₁ t₂ dealer : List ℕ) → (Place → List ℕ) → Standing
+standingOf p ws t₀ t₁ t₂ dealer c = standing (stateOf (p .counts) ws t₀ t₁ t₂ dealer c) (p .lines) (p .reading)
+
+-- the record's words say a record, and a sound one
+pub record RecordFits (ws : List ℕ) : Type 0 where
+  pub says : Says ws (machineIn ws)
+  pub sound : sound (machineIn ws) ≡ true
 
 -- each mask tape's run has room for the most lines, and no more were taken
-pub record MasksFit (s : Session) (t₀ t₁ t₂ : List ℕ) : Type 0 where
+pub record MasksFit (n : Counts) (t₀ t₁ t₂ : List ℕ) : Type 0 where
   pub zero : length t₀ ≡ most
   pub one : length t₁ ≡ most
   pub two : length t₂ ≡ most
-  pub few : s .masks ≤ most
+  pub few : n .masks ≤ most
 
 -- and so the dealer's
-pub record DealerFits (s : Session) (dealer : List ℕ) : Type 0 where
+pub record DealerFits (n : Counts) (dealer : List ℕ) : Type 0 where
   pub run : length dealer ≡ most
-  pub few : s .dealer ≤ most
+  pub few : n .dealer ≤ most

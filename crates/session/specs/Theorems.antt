@@ -8,7 +8,7 @@ use Rattle.machine.specs.Registers.{million}
 use Rattle.line.specs.Lines.{commandOf}
 use Rattle.line.specs.Printed.{printed}
 use Rattle.line.specs.declared.commands.Command.the-variants.{Dealer, Masks, Unreadable}
-use Rattle.session.specs.Kept.{atLine, noLines, standingOf}
+use Rattle.session.specs.Kept.{atLine, emptyWords, noLines, standingOf}
 use Rattle.session.specs.Outputs.{State, most, output, outputFrom, zeroWords}
 use Rattle.session.specs.Standings.{Standing, afterBytes, begun, printedBy, printedLast}
 
@@ -30,7 +30,7 @@ Stops = (w : Standing) → million ≤ w .lines → (bytes : List ℕ)
 -- what the code keeps before the first line is the definition's start, whatever the runs for tapes hold
 abbrev pub Starts : Type 0
 Starts = (t₀ t₁ t₂ dealer : List ℕ)
-    → standingOf (atLine noLines 0) t₀ t₁ t₂ dealer (three zeroWords zeroWords zeroWords) ≡ begun
+    → standingOf (atLine noLines 0) emptyWords t₀ t₁ t₂ dealer (three zeroWords zeroWords zeroWords) ≡ begun
 
 -- "prints 13 as refusal and changes nothing": line l, number n, of a job at s with the lines ls to come
 abbrev pub Prints13 : (n : ℕ) → State → (l : List ℕ) (ls : List (List ℕ)) → Type 0

@@ -1,13 +1,13 @@
 // A job, line by line: what each line does, and what is printed.
 mod lines;
+mod progress;
 mod replies;
-mod sessions;
 mod turns;
 
 pub use lines::Printed;
 pub use lines::feed;
 pub use lines::finish;
+pub use progress::Counts;
+pub use progress::Progress;
+pub use progress::Turn;
 pub use replies::Reply;
-pub use sessions::Progress;
-pub use sessions::Session;
-pub use sessions::Turn;

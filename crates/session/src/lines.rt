@@ -4,10 +4,10 @@ ghost use Prim.Native.Nat.{_+_, _*_, _≤_, _<_};
 ghost use lib.ListN.{drop, length};
 ghost use Rattle.gate.specs.Places.{three};
 ghost use Rattle.line.specs.Printed.{Wrote};
-ghost use Rattle.session.specs.Kept.{DealerFits, MasksFit, standingOf};
+ghost use Rattle.session.specs.Kept.{DealerFits, MasksFit, RecordFits, standingOf};
 ghost use Rattle.session.specs.Standings.{Advanced, afterBytes, afterEnd, afterLast, printedAt, printedBy, printedLast};
+use crate::progress::Progress;
 use crate::replies::print_reply;
-use crate::sessions::Progress;
 use crate::turns::take_command;
 use line::take_line;
 
@@ -30,6 +30,7 @@ pub struct Advance {
 // The end of a line: does what it says, and prints the reply.
 fn end_line(
     p: Progress,
+    record: &mut [u64],
     m0: &mut [u64],
     m1: &mut [u64],
     m2: &mut [u64],
@@ -40,28 +41,31 @@ fn end_line(
     out: &mut [u8],
     at: usize,
 ) -> Printed
-    requires masks { ⌜ MasksFit (p .session) (now m0) (now m1) (now m2) ⌝ }
-    requires dealer { ⌜ DealerFits (p .session) (now dealer) ⌝ }
+    requires machine { ⌜ RecordFits (now «record») ⌝ }
+    requires masks { ⌜ MasksFit (p .counts) (now m0) (now m1) (now m2) ⌝ }
+    requires dealer { ⌜ DealerFits (p .counts) (now dealer) ⌝ }
     requires room { ⌜ at + 105 ≤ length (now out) ⌝ }
-    ensures is { λ r. ⌜ standingOf (r .progress) (now (m0 .exit)) (now (m1 .exit)) (now (m2 .exit)) (now (dealer .exit)) (three (now (c0 .exit)) (now (c1 .exit)) (now (c2 .exit))) ≡ afterEnd (standingOf p (now (m0 .entry)) (now (m1 .entry)) (now (m2 .entry)) (now (dealer .entry)) (three (now (c0 .entry)) (now (c1 .entry)) (now (c2 .entry)))) ⌝ }
-    ensures writes { λ r. ⌜ Wrote at (printedAt (standingOf p (now (m0 .entry)) (now (m1 .entry)) (now (m2 .entry)) (now (dealer .entry)) (three (now (c0 .entry)) (now (c1 .entry)) (now (c2 .entry))))) (now (out .entry)) (now (out .exit)) (r .at) ⌝ }
+    ensures is { λ r. ⌜ standingOf (r .progress) (now («record» .exit)) (now (m0 .exit)) (now (m1 .exit)) (now (m2 .exit)) (now (dealer .exit)) (three (now (c0 .exit)) (now (c1 .exit)) (now (c2 .exit))) ≡ afterEnd (standingOf p (now («record» .entry)) (now (m0 .entry)) (now (m1 .entry)) (now (m2 .entry)) (now (dealer .entry)) (three (now (c0 .entry)) (now (c1 .entry)) (now (c2 .entry)))) ⌝ }
+    ensures writes { λ r. ⌜ Wrote at (printedAt (standingOf p (now («record» .entry)) (now (m0 .entry)) (now (m1 .entry)) (now (m2 .entry)) (now (dealer .entry)) (three (now (c0 .entry)) (now (c1 .entry)) (now (c2 .entry))))) (now (out .entry)) (now (out .exit)) (r .at) ⌝ }
     ensures short { λ r. ⌜ r .at ≤ at + 105 ⌝ }
-    ensures masks { λ r. ⌜ MasksFit (r .progress .session) (now (m0 .exit)) (now (m1 .exit)) (now (m2 .exit)) ⌝ }
-    ensures dealer { λ r. ⌜ DealerFits (r .progress .session) (now (dealer .exit)) ⌝ }
+    ensures machine { λ r. ⌜ RecordFits (now («record» .exit)) ⌝ }
+    ensures masks { λ r. ⌜ MasksFit (r .progress .counts) (now (m0 .exit)) (now (m1 .exit)) (now (m2 .exit)) ⌝ }
+    ensures dealer { λ r. ⌜ DealerFits (r .progress .counts) (now (dealer .exit)) ⌝ }
 {
-    let session = p.session;
+    let counts = p.counts;
     if LAST_LINE <= p.lines {
         return Printed {
-            progress: Progress::at_line(session, p.lines),
+            progress: Progress::at_line(counts, p.lines),
             at,
         };
     }
     let reading = p.reading;
     let line = p.lines + 1;
-    let turn = take_command(session, reading.command(), m0, m1, m2, dealer, c0, c1, c2);
-    let left = turn.session;
+    let command = reading.command();
+    let turn = take_command(counts, command, record, m0, m1, m2, dealer, c0, c1, c2);
+    let left = turn.counts;
     let reply = turn.reply;
-    let next = print_reply(out, at, line, left.machine, reply);
+    let next = print_reply(out, at, line, record, reply);
     Printed {
         progress: Progress::at_line(left, line),
         at: next,
@@ -73,6 +77,7 @@ fn take_one(
     p: Progress,
     buf: &[u8],
     i: usize,
+    record: &mut [u64],
     m0: &mut [u64],
     m1: &mut [u64],
     m2: &mut [u64],
@@ -83,24 +88,26 @@ fn take_one(
     out: &mut [u8],
     at: usize,
 ) -> Advance
-    requires masks { ⌜ MasksFit (p .session) (now m0) (now m1) (now m2) ⌝ }
-    requires dealer { ⌜ DealerFits (p .session) (now dealer) ⌝ }
+    requires machine { ⌜ RecordFits (now «record») ⌝ }
+    requires masks { ⌜ MasksFit (p .counts) (now m0) (now m1) (now m2) ⌝ }
+    requires dealer { ⌜ DealerFits (p .counts) (now dealer) ⌝ }
     requires inside { ⌜ i < length (now buf) ⌝ }
     requires room { ⌜ at + 105 ≤ length (now out) ⌝ }
-    ensures is { λ r. ⌜ Advanced (standingOf p (now (m0 .entry)) (now (m1 .entry)) (now (m2 .entry)) (now (dealer .entry)) (three (now (c0 .entry)) (now (c1 .entry)) (now (c2 .entry)))) (drop i (now (buf .entry))) (standingOf (r .progress) (now (m0 .exit)) (now (m1 .exit)) (now (m2 .exit)) (now (dealer .exit)) (three (now (c0 .exit)) (now (c1 .exit)) (now (c2 .exit)))) (drop (r .next) (now (buf .entry))) at (now (out .entry)) (now (out .exit)) (r .at) ⌝ }
+    ensures is { λ r. ⌜ Advanced (standingOf p (now («record» .entry)) (now (m0 .entry)) (now (m1 .entry)) (now (m2 .entry)) (now (dealer .entry)) (three (now (c0 .entry)) (now (c1 .entry)) (now (c2 .entry)))) (drop i (now (buf .entry))) (standingOf (r .progress) (now («record» .exit)) (now (m0 .exit)) (now (m1 .exit)) (now (m2 .exit)) (now (dealer .exit)) (three (now (c0 .exit)) (now (c1 .exit)) (now (c2 .exit)))) (drop (r .next) (now (buf .entry))) at (now (out .entry)) (now (out .exit)) (r .at) ⌝ }
     ensures further { λ r. ⌜ i < r .next ⌝ }
     ensures within { λ r. ⌜ r .next ≤ length (now (buf .entry)) ⌝ }
     ensures short { λ r. ⌜ r .at + 105 * i ≤ at + 105 * r .next ⌝ }
-    ensures masks { λ r. ⌜ MasksFit (r .progress .session) (now (m0 .exit)) (now (m1 .exit)) (now (m2 .exit)) ⌝ }
-    ensures dealer { λ r. ⌜ DealerFits (r .progress .session) (now (dealer .exit)) ⌝ }
+    ensures machine { λ r. ⌜ RecordFits (now («record» .exit)) ⌝ }
+    ensures masks { λ r. ⌜ MasksFit (r .progress .counts) (now (m0 .exit)) (now (m1 .exit)) (now (m2 .exit)) ⌝ }
+    ensures dealer { λ r. ⌜ DealerFits (r .progress .counts) (now (dealer .exit)) ⌝ }
 {
     let reading = p.reading;
-    let session = p.session;
+    let counts = p.counts;
     let taken = take_line(buf, i, reading);
     let stop = taken.at;
     let more = taken.reading;
     let q = Progress {
-        session,
+        counts,
         lines: p.lines,
         reading: more,
     };
@@ -111,7 +118,7 @@ fn take_one(
             at,
         };
     }
-    let printed = end_line(q, m0, m1, m2, dealer, c0, c1, c2, out, at);
+    let printed = end_line(q, record, m0, m1, m2, dealer, c0, c1, c2, out, at);
     let left = printed.progress;
     Advance {
         progress: left,
@@ -124,6 +131,7 @@ fn take_one(
 pub fn feed(
     p: Progress,
     buf: &[u8],
+    record: &mut [u64],
     m0: &mut [u64],
     m1: &mut [u64],
     m2: &mut [u64],
@@ -133,20 +141,22 @@ pub fn feed(
     c2: &mut [u64],
     out: &mut [u8],
 ) -> Printed
-    requires masks { ⌜ MasksFit (p .session) (now m0) (now m1) (now m2) ⌝ }
-    requires dealer { ⌜ DealerFits (p .session) (now dealer) ⌝ }
+    requires machine { ⌜ RecordFits (now «record») ⌝ }
+    requires masks { ⌜ MasksFit (p .counts) (now m0) (now m1) (now m2) ⌝ }
+    requires dealer { ⌜ DealerFits (p .counts) (now dealer) ⌝ }
     requires room { ⌜ 105 * length (now buf) ≤ length (now out) ⌝ }
-    ensures is { λ r. ⌜ standingOf (r .progress) (now (m0 .exit)) (now (m1 .exit)) (now (m2 .exit)) (now (dealer .exit)) (three (now (c0 .exit)) (now (c1 .exit)) (now (c2 .exit))) ≡ afterBytes (standingOf p (now (m0 .entry)) (now (m1 .entry)) (now (m2 .entry)) (now (dealer .entry)) (three (now (c0 .entry)) (now (c1 .entry)) (now (c2 .entry)))) (now (buf .entry)) ⌝ }
-    ensures writes { λ r. ⌜ Wrote 0 (printedBy (standingOf p (now (m0 .entry)) (now (m1 .entry)) (now (m2 .entry)) (now (dealer .entry)) (three (now (c0 .entry)) (now (c1 .entry)) (now (c2 .entry)))) (now (buf .entry))) (now (out .entry)) (now (out .exit)) (r .at) ⌝ }
+    ensures is { λ r. ⌜ standingOf (r .progress) (now («record» .exit)) (now (m0 .exit)) (now (m1 .exit)) (now (m2 .exit)) (now (dealer .exit)) (three (now (c0 .exit)) (now (c1 .exit)) (now (c2 .exit))) ≡ afterBytes (standingOf p (now («record» .entry)) (now (m0 .entry)) (now (m1 .entry)) (now (m2 .entry)) (now (dealer .entry)) (three (now (c0 .entry)) (now (c1 .entry)) (now (c2 .entry)))) (now (buf .entry)) ⌝ }
+    ensures writes { λ r. ⌜ Wrote 0 (printedBy (standingOf p (now («record» .entry)) (now (m0 .entry)) (now (m1 .entry)) (now (m2 .entry)) (now (dealer .entry)) (three (now (c0 .entry)) (now (c1 .entry)) (now (c2 .entry)))) (now (buf .entry))) (now (out .entry)) (now (out .exit)) (r .at) ⌝ }
     ensures within { λ r. ⌜ r .at ≤ length (now (out .exit)) ⌝ }
-    ensures masks { λ r. ⌜ MasksFit (r .progress .session) (now (m0 .exit)) (now (m1 .exit)) (now (m2 .exit)) ⌝ }
-    ensures dealer { λ r. ⌜ DealerFits (r .progress .session) (now (dealer .exit)) ⌝ }
+    ensures machine { λ r. ⌜ RecordFits (now («record» .exit)) ⌝ }
+    ensures masks { λ r. ⌜ MasksFit (r .progress .counts) (now (m0 .exit)) (now (m1 .exit)) (now (m2 .exit)) ⌝ }
+    ensures dealer { λ r. ⌜ DealerFits (r .progress .counts) (now (dealer .exit)) ⌝ }
 {
     let mut q = p;
     let mut i = 0;
     let mut at = 0;
     while i < buf.len() {
-        let a = take_one(q, buf, i, m0, m1, m2, dealer, c0, c1, c2, out, at);
+        let a = take_one(q, buf, i, record, m0, m1, m2, dealer, c0, c1, c2, out, at);
         q = a.progress;
         i = a.next;
         at = a.at;
@@ -157,6 +167,7 @@ pub fn feed(
 // The end of input: a line of which a byte was seen ends here.
 pub fn finish(
     p: Progress,
+    record: &mut [u64],
     m0: &mut [u64],
     m1: &mut [u64],
     m2: &mut [u64],
@@ -166,16 +177,17 @@ pub fn finish(
     c2: &mut [u64],
     out: &mut [u8],
 ) -> Printed
-    requires masks { ⌜ MasksFit (p .session) (now m0) (now m1) (now m2) ⌝ }
-    requires dealer { ⌜ DealerFits (p .session) (now dealer) ⌝ }
+    requires machine { ⌜ RecordFits (now «record») ⌝ }
+    requires masks { ⌜ MasksFit (p .counts) (now m0) (now m1) (now m2) ⌝ }
+    requires dealer { ⌜ DealerFits (p .counts) (now dealer) ⌝ }
     requires room { ⌜ 105 ≤ length (now out) ⌝ }
-    ensures is { λ r. ⌜ standingOf (r .progress) (now (m0 .exit)) (now (m1 .exit)) (now (m2 .exit)) (now (dealer .exit)) (three (now (c0 .exit)) (now (c1 .exit)) (now (c2 .exit))) ≡ afterLast (standingOf p (now (m0 .entry)) (now (m1 .entry)) (now (m2 .entry)) (now (dealer .entry)) (three (now (c0 .entry)) (now (c1 .entry)) (now (c2 .entry)))) ⌝ }
-    ensures writes { λ r. ⌜ Wrote 0 (printedLast (standingOf p (now (m0 .entry)) (now (m1 .entry)) (now (m2 .entry)) (now (dealer .entry)) (three (now (c0 .entry)) (now (c1 .entry)) (now (c2 .entry))))) (now (out .entry)) (now (out .exit)) (r .at) ⌝ }
+    ensures is { λ r. ⌜ standingOf (r .progress) (now («record» .exit)) (now (m0 .exit)) (now (m1 .exit)) (now (m2 .exit)) (now (dealer .exit)) (three (now (c0 .exit)) (now (c1 .exit)) (now (c2 .exit))) ≡ afterLast (standingOf p (now («record» .entry)) (now (m0 .entry)) (now (m1 .entry)) (now (m2 .entry)) (now (dealer .entry)) (three (now (c0 .entry)) (now (c1 .entry)) (now (c2 .entry)))) ⌝ }
+    ensures writes { λ r. ⌜ Wrote 0 (printedLast (standingOf p (now («record» .entry)) (now (m0 .entry)) (now (m1 .entry)) (now (m2 .entry)) (now (dealer .entry)) (three (now (c0 .entry)) (now (c1 .entry)) (now (c2 .entry))))) (now (out .entry)) (now (out .exit)) (r .at) ⌝ }
     ensures within { λ r. ⌜ r .at ≤ length (now (out .exit)) ⌝ }
 {
     let reading = p.reading;
     if reading.seen {
-        return end_line(p, m0, m1, m2, dealer, c0, c1, c2, out, 0);
+        return end_line(p, record, m0, m1, m2, dealer, c0, c1, c2, out, 0);
     }
     Printed { progress: p, at: 0 }
 }

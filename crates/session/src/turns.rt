@@ -3,28 +3,27 @@ ghost use mathlib.Core.List.{List};
 ghost use mathlib.Core.Path.{_≡_};
 ghost use Prim.Native.Nat.{ℕ};
 ghost use Rattle.gate.specs.Places.{Place, three};
-ghost use Rattle.session.specs.Kept.{DealerFits, MasksFit, stateOf, turnedOf};
+ghost use Rattle.session.specs.Kept.{DealerFits, MasksFit, RecordFits, stateOf, turnedOf};
 ghost use Rattle.session.specs.Outputs.{declined, itemTaken, masksTaken, ordered, taken};
+use crate::progress::Counts;
+use crate::progress::Turn;
 use crate::replies::Reply;
-use crate::sessions::Session;
-use crate::sessions::Turn;
 use line::Command;
-use machine::Machine;
 use machine::Order;
 use order::refusal;
 use order::value;
-use step::step;
+use step::step_words;
 
 // 01: "At most 512 lines of each tape kind".
 const MOST: usize = 512;
 
 // 01: "prints 13 as refusal and changes nothing".
-fn decline(s: Session) -> Turn
-    ensures { λ r. ⌜ ((t₀ t₁ t₂ dealer : List ℕ) (c : Place → List ℕ) → turnedOf r t₀ t₁ t₂ dealer c ≡ declined (stateOf s t₀ t₁ t₂ dealer c)) ⌝ }
-    ensures same { λ r. ⌜ r .session ≡ s ⌝ }
+fn decline(n: Counts) -> Turn
+    ensures { λ r. ⌜ ((ws t₀ t₁ t₂ dealer : List ℕ) (c : Place → List ℕ) → turnedOf r ws t₀ t₁ t₂ dealer c ≡ declined (stateOf n ws t₀ t₁ t₂ dealer c)) ⌝ }
+    ensures same { λ r. ⌜ r .counts ≡ n ⌝ }
 {
     Turn {
-        session: s,
+        counts: n,
         reply: Reply::Says {
             refusal: 13,
             value: 0,
@@ -34,7 +33,7 @@ fn decline(s: Session) -> Turn
 
 // 01: "Kind 0 adds t0,t1,t2 to the strands".
 fn add_masks(
-    s: Session,
+    n: Counts,
     i0: u64,
     i1: u64,
     i2: u64,
@@ -42,50 +41,53 @@ fn add_masks(
     m1: &mut [u64],
     m2: &mut [u64],
 ) -> Turn
-    requires { ⌜ MasksFit s (now m0) (now m1) (now m2) ⌝ }
-    ensures is { λ r. ⌜ ((dealer : List ℕ) (c : Place → List ℕ) → turnedOf r (now (m0 .exit)) (now (m1 .exit)) (now (m2 .exit)) dealer c ≡ masksTaken (stateOf s (now (m0 .entry)) (now (m1 .entry)) (now (m2 .entry)) dealer c) i0 i1 i2) ⌝ }
-    ensures fits { λ r. ⌜ MasksFit (r .session) (now (m0 .exit)) (now (m1 .exit)) (now (m2 .exit)) ⌝ }
-    ensures dealer { λ r. ⌜ r .session .dealer ≡ s .dealer ⌝ }
+    requires { ⌜ MasksFit n (now m0) (now m1) (now m2) ⌝ }
+    ensures is { λ r. ⌜ ((ws dealer : List ℕ) (c : Place → List ℕ) → turnedOf r ws (now (m0 .exit)) (now (m1 .exit)) (now (m2 .exit)) dealer c ≡ masksTaken (stateOf n ws (now (m0 .entry)) (now (m1 .entry)) (now (m2 .entry)) dealer c) i0 i1 i2) ⌝ }
+    ensures fits { λ r. ⌜ MasksFit (r .counts) (now (m0 .exit)) (now (m1 .exit)) (now (m2 .exit)) ⌝ }
+    ensures dealer { λ r. ⌜ r .counts .dealer ≡ n .dealer ⌝ }
 {
-    let at = s.masks;
+    let at = n.masks;
     if MOST <= at {
-        return decline(s);
+        return decline(n);
     }
     m0[at] = i0;
     m1[at] = i1;
     m2[at] = i2;
-    let mut n = s;
-    n.masks = at + 1;
     Turn {
-        session: n,
+        counts: Counts {
+            masks: at + 1,
+            dealer: n.dealer,
+        },
         reply: Reply::Silent,
     }
 }
 
 // 01: "kind 10 adds one dealer item".
-fn add_item(s: Session, item: u64, dealer: &mut [u64]) -> Turn
-    requires { ⌜ DealerFits s (now dealer) ⌝ }
-    ensures is { λ r. ⌜ ((t₀ t₁ t₂ : List ℕ) (c : Place → List ℕ) → turnedOf r t₀ t₁ t₂ (now (dealer .exit)) c ≡ itemTaken (stateOf s t₀ t₁ t₂ (now (dealer .entry)) c) item) ⌝ }
-    ensures fits { λ r. ⌜ DealerFits (r .session) (now (dealer .exit)) ⌝ }
-    ensures masks { λ r. ⌜ r .session .masks ≡ s .masks ⌝ }
+fn add_item(n: Counts, item: u64, dealer: &mut [u64]) -> Turn
+    requires { ⌜ DealerFits n (now dealer) ⌝ }
+    ensures is { λ r. ⌜ ((ws t₀ t₁ t₂ : List ℕ) (c : Place → List ℕ) → turnedOf r ws t₀ t₁ t₂ (now (dealer .exit)) c ≡ itemTaken (stateOf n ws t₀ t₁ t₂ (now (dealer .entry)) c) item) ⌝ }
+    ensures fits { λ r. ⌜ DealerFits (r .counts) (now (dealer .exit)) ⌝ }
+    ensures masks { λ r. ⌜ r .counts .masks ≡ n .masks ⌝ }
 {
-    let at = s.dealer;
+    let at = n.dealer;
     if MOST <= at {
-        return decline(s);
+        return decline(n);
     }
     dealer[at] = item;
-    let mut n = s;
-    n.dealer = at + 1;
     Turn {
-        session: n,
+        counts: Counts {
+            masks: n.masks,
+            dealer: at + 1,
+        },
         reply: Reply::Silent,
     }
 }
 
 // 01: "kinds 1 to 9 are the orders".
 fn give_order(
-    s: Session,
+    n: Counts,
     o: Order,
+    record: &mut [u64],
     m0: &[u64],
     m1: &[u64],
     m2: &[u64],
@@ -94,33 +96,30 @@ fn give_order(
     c1: &mut [u64],
     c2: &mut [u64],
 ) -> Turn
-    requires masks { ⌜ MasksFit s (now m0) (now m1) (now m2) ⌝ }
-    requires dealer { ⌜ DealerFits s (now dealer) ⌝ }
-    ensures is { λ r. ⌜ turnedOf r (now (m0 .entry)) (now (m1 .entry)) (now (m2 .entry)) (now (dealer .entry)) (three (now (c0 .exit)) (now (c1 .exit)) (now (c2 .exit))) ≡ ordered (stateOf s (now (m0 .entry)) (now (m1 .entry)) (now (m2 .entry)) (now (dealer .entry)) (three (now (c0 .entry)) (now (c1 .entry)) (now (c2 .entry)))) o ⌝ }
-    ensures masks { λ r. ⌜ r .session .masks ≡ s .masks ⌝ }
-    ensures dealer { λ r. ⌜ r .session .dealer ≡ s .dealer ⌝ }
+    requires machine { ⌜ RecordFits (now «record») ⌝ }
+    requires masks { ⌜ MasksFit n (now m0) (now m1) (now m2) ⌝ }
+    requires dealer { ⌜ DealerFits n (now dealer) ⌝ }
+    ensures is { λ r. ⌜ turnedOf r (now («record» .exit)) (now (m0 .entry)) (now (m1 .entry)) (now (m2 .entry)) (now (dealer .entry)) (three (now (c0 .exit)) (now (c1 .exit)) (now (c2 .exit))) ≡ ordered (stateOf n (now («record» .entry)) (now (m0 .entry)) (now (m1 .entry)) (now (m2 .entry)) (now (dealer .entry)) (three (now (c0 .entry)) (now (c1 .entry)) (now (c2 .entry)))) o ⌝ }
+    ensures machine { λ r. ⌜ RecordFits (now («record» .exit)) ⌝ }
+    ensures counts { λ r. ⌜ r .counts ≡ n ⌝ }
 {
-    let n = s.masks;
-    let k = s.dealer;
-    let left = step(
-        s.machine,
+    let masks = n.masks;
+    let items = n.dealer;
+    // Every order leaves a job's record sound, so it is not looked at again.
+    let answer = step_words(
+        true,
         o,
-        &m0[0..n],
-        &m1[0..n],
-        &m2[0..n],
-        &dealer[0..k],
+        record,
+        &m0[0..masks],
+        &m1[0..masks],
+        &m2[0..masks],
+        &dealer[0..items],
         c0,
         c1,
         c2,
     );
-    let answer = left.answer;
-    let after = left.machine;
     Turn {
-        session: Session {
-            machine: after,
-            masks: n,
-            dealer: k,
-        },
+        counts: n,
         reply: Reply::Says {
             refusal: refusal(answer),
             value: value(answer),
@@ -130,8 +129,9 @@ fn give_order(
 
 // What a line does.
 pub fn take_command(
-    s: Session,
+    n: Counts,
     command: Command,
+    record: &mut [u64],
     m0: &mut [u64],
     m1: &mut [u64],
     m2: &mut [u64],
@@ -140,16 +140,18 @@ pub fn take_command(
     c1: &mut [u64],
     c2: &mut [u64],
 ) -> Turn
-    requires masks { ⌜ MasksFit s (now m0) (now m1) (now m2) ⌝ }
-    requires dealer { ⌜ DealerFits s (now dealer) ⌝ }
-    ensures is { λ r. ⌜ turnedOf r (now (m0 .exit)) (now (m1 .exit)) (now (m2 .exit)) (now (dealer .exit)) (three (now (c0 .exit)) (now (c1 .exit)) (now (c2 .exit))) ≡ taken (stateOf s (now (m0 .entry)) (now (m1 .entry)) (now (m2 .entry)) (now (dealer .entry)) (three (now (c0 .entry)) (now (c1 .entry)) (now (c2 .entry)))) command ⌝ }
-    ensures masks { λ r. ⌜ MasksFit (r .session) (now (m0 .exit)) (now (m1 .exit)) (now (m2 .exit)) ⌝ }
-    ensures dealer { λ r. ⌜ DealerFits (r .session) (now (dealer .exit)) ⌝ }
+    requires machine { ⌜ RecordFits (now «record») ⌝ }
+    requires masks { ⌜ MasksFit n (now m0) (now m1) (now m2) ⌝ }
+    requires dealer { ⌜ DealerFits n (now dealer) ⌝ }
+    ensures is { λ r. ⌜ turnedOf r (now («record» .exit)) (now (m0 .exit)) (now (m1 .exit)) (now (m2 .exit)) (now (dealer .exit)) (three (now (c0 .exit)) (now (c1 .exit)) (now (c2 .exit))) ≡ taken (stateOf n (now («record» .entry)) (now (m0 .entry)) (now (m1 .entry)) (now (m2 .entry)) (now (dealer .entry)) (three (now (c0 .entry)) (now (c1 .entry)) (now (c2 .entry)))) command ⌝ }
+    ensures machine { λ r. ⌜ RecordFits (now («record» .exit)) ⌝ }
+    ensures masks { λ r. ⌜ MasksFit (r .counts) (now (m0 .exit)) (now (m1 .exit)) (now (m2 .exit)) ⌝ }
+    ensures dealer { λ r. ⌜ DealerFits (r .counts) (now (dealer .exit)) ⌝ }
 {
     match command {
-        Command::Masks { t0, t1, t2 } => add_masks(s, t0, t1, t2, m0, m1, m2),
-        Command::Dealer { item } => add_item(s, item, dealer),
-        Command::Order(o) => give_order(s, o, m0, m1, m2, dealer, c0, c1, c2),
-        Command::Unreadable => decline(s),
+        Command::Masks { t0, t1, t2 } => add_masks(n, t0, t1, t2, m0, m1, m2),
+        Command::Dealer { item } => add_item(n, item, dealer),
+        Command::Order(o) => give_order(n, o, record, m0, m1, m2, dealer, c0, c1, c2),
+        Command::Unreadable => decline(n),
     }
 }

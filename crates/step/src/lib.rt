@@ -1,9 +1,11 @@
 // The machine's step: one order on a record, with the tapes and channels that are lent.
 mod found;
+mod words;
 
 pub use found::Found;
 pub use found::other;
 pub use found::source;
+pub use words::step_words;
 ghost use mathlib.Core.Path.{_≡_};
 ghost use Rattle.gate.specs.Places.{three};
 ghost use Rattle.machine.specs.Step.{step};

@@ -1,7 +1,8 @@
 // The job program: lines on standard input, a printed line for each order on standard output.
+ghost use mathlib.Core.Path.{_≡_};
 ghost use Prim.Native.Nat.{_*_, _≤_, _<_};
 ghost use lib.ListN.{length};
-ghost use Rattle.session.specs.Kept.{DealerFits, MasksFit, noLines};
+ghost use Rattle.session.specs.Kept.{DealerFits, MasksFit, RecordFits, emptyWords, noLines};
 use libc::STDIN_FILENO;
 use libc::STDOUT_FILENO;
 use session::Progress;
@@ -19,6 +20,7 @@ struct Chunk {
 fn take_chunk(
     p: Progress,
     buf: &mut [u8],
+    record: &mut [u64],
     m0: &mut [u64],
     m1: &mut [u64],
     m2: &mut [u64],
@@ -28,11 +30,13 @@ fn take_chunk(
     c2: &mut [u64],
     out: &mut [u8],
 ) -> Chunk
-    requires masks { ⌜ MasksFit (p .session) (now m0) (now m1) (now m2) ⌝ }
-    requires dealer { ⌜ DealerFits (p .session) (now dealer) ⌝ }
+    requires machine { ⌜ RecordFits (now «record») ⌝ }
+    requires masks { ⌜ MasksFit (p .counts) (now m0) (now m1) (now m2) ⌝ }
+    requires dealer { ⌜ DealerFits (p .counts) (now dealer) ⌝ }
     requires room { ⌜ 105 * length (now buf) ≤ length (now out) ⌝ }
-    ensures masks { λ r. ⌜ MasksFit (r .progress .session) (now (m0 .exit)) (now (m1 .exit)) (now (m2 .exit)) ⌝ }
-    ensures dealer { λ r. ⌜ DealerFits (r .progress .session) (now (dealer .exit)) ⌝ }
+    ensures machine { λ r. ⌜ RecordFits (now («record» .exit)) ⌝ }
+    ensures masks { λ r. ⌜ MasksFit (r .progress .counts) (now (m0 .exit)) (now (m1 .exit)) (now (m2 .exit)) ⌝ }
+    ensures dealer { λ r. ⌜ DealerFits (r .progress .counts) (now (dealer .exit)) ⌝ }
 {
     let got = libc::read(STDIN_FILENO, buf);
     let n = io::count(got, buf);
@@ -42,7 +46,7 @@ fn take_chunk(
             more: false,
         };
     }
-    let printed = feed(p, &buf[0..n], m0, m1, m2, dealer, c0, c1, c2, out);
+    let printed = feed(p, &buf[0..n], record, m0, m1, m2, dealer, c0, c1, c2, out);
     let progress = printed.progress;
     let at = printed.at;
     let is_written = io::write_all(STDOUT_FILENO, &out[0..at]);
@@ -63,6 +67,7 @@ fn fewer(turns: u64, more: bool) -> u64
 // All chunks. A proved loop has to end, so it counts its turns down, from a number that no run uses up.
 fn take_input(
     buf: &mut [u8],
+    record: &mut [u64],
     m0: &mut [u64],
     m1: &mut [u64],
     m2: &mut [u64],
@@ -72,16 +77,18 @@ fn take_input(
     c2: &mut [u64],
     out: &mut [u8],
 ) -> Progress
+    requires machine { ⌜ now «record» ≡ emptyWords ⌝ }
     requires masks { ⌜ MasksFit noLines (now m0) (now m1) (now m2) ⌝ }
     requires dealer { ⌜ DealerFits noLines (now dealer) ⌝ }
     requires room { ⌜ 105 * length (now buf) ≤ length (now out) ⌝ }
-    ensures masks { λ r. ⌜ MasksFit (r .session) (now (m0 .exit)) (now (m1 .exit)) (now (m2 .exit)) ⌝ }
-    ensures dealer { λ r. ⌜ DealerFits (r .session) (now (dealer .exit)) ⌝ }
+    ensures machine { λ r. ⌜ RecordFits (now («record» .exit)) ⌝ }
+    ensures masks { λ r. ⌜ MasksFit (r .counts) (now (m0 .exit)) (now (m1 .exit)) (now (m2 .exit)) ⌝ }
+    ensures dealer { λ r. ⌜ DealerFits (r .counts) (now (dealer .exit)) ⌝ }
 {
     let mut p = Progress::start();
     let mut turns = u64::MAX;
     while 0 < turns {
-        let chunk = take_chunk(p, buf, m0, m1, m2, dealer, c0, c1, c2, out);
+        let chunk = take_chunk(p, buf, record, m0, m1, m2, dealer, c0, c1, c2, out);
         p = chunk.progress;
         turns = fewer(turns, chunk.more);
     }
@@ -91,6 +98,7 @@ fn take_input(
 // The end of input, and what its last line prints.
 fn end_input(
     p: Progress,
+    record: &mut [u64],
     m0: &mut [u64],
     m1: &mut [u64],
     m2: &mut [u64],
@@ -100,38 +108,19 @@ fn end_input(
     c2: &mut [u64],
     out: &mut [u8],
 )
-    requires masks { ⌜ MasksFit (p .session) (now m0) (now m1) (now m2) ⌝ }
-    requires dealer { ⌜ DealerFits (p .session) (now dealer) ⌝ }
+    requires machine { ⌜ RecordFits (now «record») ⌝ }
+    requires masks { ⌜ MasksFit (p .counts) (now m0) (now m1) (now m2) ⌝ }
+    requires dealer { ⌜ DealerFits (p .counts) (now dealer) ⌝ }
     requires room { ⌜ 105 ≤ length (now out) ⌝ }
 {
-    let last = finish(p, m0, m1, m2, dealer, c0, c1, c2, out);
+    let last = finish(p, record, m0, m1, m2, dealer, c0, c1, c2, out);
     let at = last.at;
     io::write_all(STDOUT_FILENO, &out[0..at]);
 }
 
-// A job from its first byte to its last line.
-fn run(
-    buf: &mut [u8],
-    m0: &mut [u64],
-    m1: &mut [u64],
-    m2: &mut [u64],
-    dealer: &mut [u64],
-    c0: &mut [u64],
-    c1: &mut [u64],
-    c2: &mut [u64],
-    out: &mut [u8],
-)
-    requires masks { ⌜ MasksFit noLines (now m0) (now m1) (now m2) ⌝ }
-    requires dealer { ⌜ DealerFits noLines (now dealer) ⌝ }
-    requires some { ⌜ 0 < length (now buf) ⌝ }
-    requires room { ⌜ 105 * length (now buf) ≤ length (now out) ⌝ }
-{
-    let p = take_input(buf, m0, m1, m2, dealer, c0, c1, c2, out);
-    end_input(p, m0, m1, m2, dealer, c0, c1, c2, out);
-}
-
 fn main() {
     let mut buf = [0u8; 2496];
+    let mut record = [0u64; 83];
     let mut m0 = [0u64; 512];
     let mut m1 = [0u64; 512];
     let mut m2 = [0u64; 512];
@@ -140,8 +129,21 @@ fn main() {
     let mut c1 = [0u64; 1024];
     let mut c2 = [0u64; 1024];
     let mut out = [0u8; 262080];
-    run(
+    let p = take_input(
         &mut buf,
+        &mut record,
+        &mut m0,
+        &mut m1,
+        &mut m2,
+        &mut dealer,
+        &mut c0,
+        &mut c1,
+        &mut c2,
+        &mut out,
+    );
+    end_input(
+        p,
+        &mut record,
         &mut m0,
         &mut m1,
         &mut m2,

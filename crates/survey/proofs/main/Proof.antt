@@ -1,18 +1,35 @@
 -- The arrays have the sizes that a job needs.
 use Prim.Native.Nat.{ℕ}
+use mathlib.Core.Path.{_≡_, refl}
 use native.Mathlib.Omega.{arith}
 use borrow.Author.Needs.{needs}
-use lib.ListN.{length-replicate}
+use lib.ListN.{length, length-replicate, replicate}
 use Rattle.survey.proofs.main.Statement.{statement}
 use Rattle.survey.proofs.main.Tie as tie
 
-sizes : tie.Need-run-requires
+zeros : (n : ℕ) → length (replicate {A = ℕ} n 0) ≡ n
+zeros n = length-replicate n 0
+
+sizes : tie.Need-take-input-requires
 sizes c κs = (
-  record { zero = length-replicate {A = ℕ} 512 0; one = length-replicate {A = ℕ} 512 0; two = length-replicate {A = ℕ} 512 0; few = omega arith },
-  (record { run = length-replicate {A = ℕ} 512 0; few = omega arith }, (omega (arith, length-replicate {A = ℕ} 2496 0), omega (arith, length-replicate {A = ℕ} 2496 0, length-replicate {A = ℕ} 262080 0))),
+  refl {a = replicate {A = ℕ} 83 0},
+  (
+    record { zero = zeros 512; one = zeros 512; two = zeros 512; few = omega arith },
+    (record { run = zeros 512; few = omega arith }, omega (arith, zeros 2496, zeros 262080)),
+  ),
 )
+
+ends : tie.Need-end-input-requires
+ends c κs =
+    let given = c .before .before .before .before .before .before .before .before .before in
+    let told = given .before .before .before .before .before .before .before .before .before .before .take-input .ensures in
+    (told .0, (told .1 .0, (told .1 .1, omega (arith, given .out2 .given, zeros 262080))))
 
 pub main-spec : {M : Type 1} → statement M
 main-spec =
     tie.close
-    (tie.spec (λ c. search needs) (λ c. search needs) (λ c. search needs) (λ c. search needs) (λ c. search needs) (λ c. search needs) (λ c. search needs) (λ c. search needs) (λ c. search needs) sizes (λ c. search needs))
+    (tie.spec
+    (λ c. search needs) (λ c. search needs) (λ c. search needs) (λ c. search needs) (λ c. search needs)
+    (λ c. search needs) (λ c. search needs) (λ c. search needs) (λ c. search needs) (λ c. search needs) sizes
+    (λ c. search needs) (λ c. search needs) (λ c. search needs) (λ c. search needs) (λ c. search needs)
+    (λ c. search needs) (λ c. search needs) (λ c. search needs) (λ c. search needs) ends (λ c. search needs))

@@ -2,18 +2,15 @@
 use Prim.Native.Nat.{ℕ}
 use mathlib.Core.List.{List}
 use mathlib.Core.Path.{_≡_, sym, _∙_}
-use native.Mathlib.Omega.{arith}
 use borrow.Author.Needs.{needs}
-use lib.ListN.{getD}
 use Rattle.gate.specs.Places.{Place, three}
 use Rattle.machine.specs.Checks.{Tapes}
 use Rattle.machine.specs.Registers.{sound}
 use Rattle.machine.specs.Step.{step}
 use Rattle.machine.specs.declared.registers.Machine.{Machine}
 use Rattle.layout.specs.Layout.{Says, found, machineOf}
-use Rattle.layout.proofs.SaysLaw.{said, says-length}
-use Rattle.step.specs.Found.{foundIn}
-use Rattle.interface.proofs.CallLaw.{answer-length, change-written, found-in, order-unread, record-unread, seen-found, seen-none, step-read}
+use Rattle.layout.proofs.SaysLaw.{said}
+use Rattle.interface.proofs.CallLaw.{answer-length, order-unread, record-unread, seen-found, seen-none, step-left, step-read}
 use Rattle.interface.proofs.steps.survey_step.Statement.{statement}
 use Rattle.interface.proofs.steps.survey_step.Tie as tie
 
@@ -59,58 +56,19 @@ module _ (c : tie.Else2) where
   says : Says (words lending) (seen .0)
   says = said (words lending) (seen .0) (seen .1)
 
--- and what the order finds there
-module _ (c : tie.After-register-at2) where
-  abbrev first : tie.After-register-at
-  first = c .before .before .before
-
+-- at the call of the step
+module _ (c : tie.After-step-words-arg4) where
   abbrev order : tie.After-o
-  order = first .before .before .before .before
+  order = c .before .before .before .before .before
 
   abbrev known : tie.Else2
   known = order .before .before .before
 
-  finds : record {
-    sound = known .before .before .see .result .sound;
-    a = first .register-at .result;
-    b = c .register-at2 .result;
-    «masks_at» = getD (words (lending known)) 80 0;
-    «channels_at» = getD (words (lending known)) 81 0;
-    «dealer_at» = getD (words (lending known)) 82 0;
-  } ≡ foundIn (seen known .0) (order .o .given .0 .0)
-  finds =
-      let m = seen known .0 in
-      found-in m (order .o .given .0 .0) (words (lending known)) (says known) (seen known .2)
-      (first .before .source .ensures) (first .register-at .ensures m (says known))
-      (c .before .other .ensures) (c .register-at2 .ensures m (says known))
-
-long : tie.Need-register-at-requires
-long c κs = says-length (says (c .before .before .before .before .before .before))
-
-long-other : tie.Need-register-at-requires-2
-long-other c κs = says-length (says (c .before .before .before .before .before .before .before .before .before))
-
-masks-there : tie.Need-slice-read-t31
-masks-there c = let n = says-length (says (known (c .before))) in omega arith
-
-channels-there : tie.Need-slice-read-t33
-channels-there c = let n = says-length (says (known (c .before .before))) in omega arith
-
-dealer-there : tie.Need-slice-read-t35
-dealer-there c = let n = says-length (says (known (c .before .before .before))) in omega arith
-
-of-record : tie.Need-decide-requires
-of-record c κs = let r = c .before .before .before .before .before .before in (seen (known r) .0, finds r)
-
-fits : tie.Need-write-change-requires
-fits c κs =
-    let called = c .before .before .before .before .before .before .before in
-    let r = called .before .before .before .before .before .before .before in
-    let m = seen (known r) .0 in
-    (m, says (known r), called .decide .ensures m (finds r) .fits)
+of-record : tie.Need-step-words-requires
+of-record c κs = let s = seen (known c) in (s .0, says (known c), s .2)
 
 three-words : tie.Need-write-answer-requires
-three-words c κs = known (c .before .before .before .before .before .before .before .before .before .before .before .before .before .before .before .before .before .before .before) .before .before .before .before .if1 .left
+three-words c κs = known (c .before .before .before .before .before .before .before .before .before .before) .before .before .before .before .if1 .left
 
 no-order : tie.Need-returns-3
 no-order c =
@@ -121,23 +79,22 @@ no-order c =
 
 stepped : tie.Need-returns-4
 stepped c =
-    let called = c .before .before .before .before .before .before .before .before .before .before .before .before .before .before .before .before in
-    let r = called .before .before .before .before .before .before .before in
-    let k = lending (known r) in
+    let answered = c .before .before .before in
+    let called = answered .before .before .before .before .before .before .before .before .before .before in
+    let at = called .before in
+    let k = lending (known at) in
     let a = start k .args in
-    let m = seen (known r) .0 in
-    let o = order r .o .given .0 .0 in
-    let left = called .decide .last .1 .1 .1 .1 .1 .1 in
-    let done = called .decide .ensures m (finds r) in
-    change-written (called .decide .result) m {c = three (left .0) (left .1 .0) (left .1 .1 .0)} {x = step o m (lent k) (channels k)}
-    (c .before .before .before .before .before .answer .ensures) (c .refusal .ensures) (c .before .before .before .before .before .before .before .before .write-change .ensures m (says (known r)) (done .fits))
-    (c .before .before .before .write-answer .ensures) done
-    ∙ step-read (a .order .now) (words k) (a .answer .now) (lent k) (channels k) (known r .before .before .before .before .if1 .left)
-    (sym (order r .before .before .read-order .ensures) ∙ order r .o .given .1) (seen (known r) .1)
+    let m = seen (known at) .0 in
+    let o = order at .o .given .0 .0 in
+    let ends = called .step-words .last .1 .1 .1 .1 .1 .1 .1 in
+    step-left {c = three (ends .0) (ends .1 .0) (ends .1 .1 .0)} {x = step o m (lent k) (channels k)}
+    (called .step-words .ensures m (says (known at)) (seen (known at) .2)) (c .refusal .ensures) (answered .write-answer .ensures)
+    ∙ step-read (a .order .now) (words k) (a .answer .now) (lent k) (channels k) (known at .before .before .before .before .if1 .left)
+    (sym (order at .before .before .read-order .ensures) ∙ order at .o .given .1) (seen (known at) .1)
 
 pub survey-step-spec : {M : Type 1} → statement M
 survey-step-spec =
     tie.close
     (tie.spec no-answer (λ c κs. search needs) (λ c. search needs) no-record (λ c κs. search needs) (λ c. search needs) (λ c. search needs)
-    (λ c κs. search needs) long (λ c κs. search needs) long-other masks-there channels-there dealer-there of-record fits (λ c κs. search needs) three-words (λ c κs. search needs)
+    of-record three-words (λ c κs. search needs)
     (λ c. search needs) no-order (λ c. search needs) (λ c. search needs) (λ c. search needs) (λ c. search needs) (λ c. search needs) stepped)

@@ -2,7 +2,7 @@
 use mathlib.Core.Path.{ap, refl, _∙_}
 use native.Mathlib.Omega.{arith}
 use borrow.Author.Needs.{needs}
-use Rattle.session.specs.declared.sessions.Session.{Session}
+use Rattle.session.specs.declared.progress.Counts.{Counts}
 use Rattle.session.proofs.TurnLaw.{item-added, item-full, more-dealer, same-dealer}
 use Rattle.session.proofs.turns.add_item.Statement.{statement}
 use Rattle.session.proofs.turns.add_item.Tie as tie
@@ -10,20 +10,20 @@ use Rattle.session.proofs.turns.add_item.Tie as tie
 declined : tie.Need-returns
 declined c =
     let a = c .before .before .before in
-    let s = a .args .s in
+    let n = a .args .n in
     let same = c .decline .ensures .1 in (
-      λ t₀ t₁ t₂ ch.
-          c .decline .ensures .0 t₀ t₁ t₂ _ ch
-          ∙ item-full (s .machine) _ _ _ (s .dealer) _ _ ch (a .pre .run) (a .pre .few) (omega arith),
-      (same-dealer (ap (λ (n : Session). n .dealer) same) (a .pre), ap (λ (n : Session). n .masks) same),
+      λ ws t₀ t₁ t₂ ch.
+          c .decline .ensures .0 ws t₀ t₁ t₂ _ ch
+          ∙ item-full _ _ _ _ (n .dealer) _ _ ch (a .pre .run) (a .pre .few) (omega arith),
+      (same-dealer (ap (λ (n : Counts). n .dealer) same) (a .pre), ap (λ (n : Counts). n .masks) same),
     )
 
 added : tie.Need-returns-2
 added c =
     let a = c .before .before in
-    let s = a .args .s in (
-      λ t₀ t₁ t₂ ch. item-added (s .machine) _ _ _ (s .dealer) _ _ ch (a .pre .run) (omega arith),
-      (more-dealer s _ (a .args .item) refl (omega arith) (a .pre), refl),
+    let n = a .args .n in (
+      λ ws t₀ t₁ t₂ ch. item-added _ _ _ _ (n .dealer) _ _ ch (a .pre .run) (omega arith),
+      (more-dealer n _ (a .args .item) refl (omega arith) (a .pre), refl),
     )
 
 pub add-item-spec : {M : Type 1} → statement M
