@@ -210,30 +210,50 @@ fn items_and_words_left() {
     }
 }
 
+/// The modulus of an order's gate, by the kinds of `GATED`.
+fn modulus_at(kind: u64, gate: usize) -> u64 {
+    let in_ring = match kind {
+        4 | 7 => 8191,
+        6 => (1 << 61) - 1,
+        _ => (1 << 31) - 1,
+    };
+    let first_in_ring = match kind {
+        4 | 8 => 0,
+        6 => 1,
+        _ => 34,
+    };
+    if gate < first_in_ring {
+        2
+    } else {
+        in_ring
+    }
+}
+
+/// What an order answers to one item of a tape, with items out of range before and after those that it takes.
+fn refusal_of_item(
+    kind: u64,
+    fields: &[u64],
+    gates: usize,
+    (tape, gate): (usize, usize),
+    item: u64,
+) -> u64 {
+    let mut bench = bench(gates + 2);
+    bench.record.masks = 1;
+    bench.masks[tape][0] = BIG;
+    bench.masks[tape][gates + 1] = BIG;
+    bench.masks[tape][gate + 1] = item;
+    bench.refusal(kind, fields)
+}
+
 #[test]
 fn items_out_of_range() {
     for (kind, fields, gates) in GATED {
-        let in_ring = match kind {
-            4 | 7 => 8191,
-            6 => (1 << 61) - 1,
-            _ => (1 << 31) - 1,
-        };
-        let first_in_ring = match kind {
-            4 | 8 => 0,
-            6 => 1,
-            _ => 34,
-        };
-        for gate in 0..gates as usize {
-            let modulus = if gate < first_in_ring { 2 } else { in_ring };
-            for tape in 0..3 {
-                for (item, refusal) in [(modulus - 1, 0), (modulus, 10), (BIG, 10)] {
-                    let mut bench = bench(gates as usize + 2);
-                    bench.record.masks = 1;
-                    bench.masks[tape][0] = BIG;
-                    bench.masks[tape][gates as usize + 1] = BIG;
-                    bench.masks[tape][gate + 1] = item;
-                    assert_eq!(bench.refusal(kind, &fields), refusal);
-                }
+        let gates = gates as usize;
+        for place in (0..gates).flat_map(|gate| [0, 1, 2].map(|tape| (tape, gate))) {
+            let modulus = modulus_at(kind, place.1);
+            for (item, refusal) in [(modulus - 1, 0), (modulus, 10), (BIG, 10)] {
+                let found = refusal_of_item(kind, &fields, gates, place, item);
+                assert_eq!(found, refusal);
             }
         }
     }

@@ -28,17 +28,40 @@ fn holding(width: u64, shares: [u64; 3]) -> Vec<u64> {
     record
 }
 
-fn converted(shares: [u64; 3]) -> u64 {
-    let mut record = holding(31, shares);
-    answer([6, 0, 0, 13], &mut record, 5);
-    answer([9, 0, 0, 0], &mut record, 6)[1]
+/// What kind 5 or 6 of register 0 answers, and what the register then opens to.
+fn opened(width: u64, shares: [u64; 3], kind: u64, field: u64) -> ([u64; ANSWER_WORDS], u64) {
+    let mut record = holding(width, shares);
+    let answered = answer([kind, 0, 0, field], &mut record, 34);
+    (answered, answer([9, 0, 0, 0], &mut record, 35)[1])
 }
 
-pub fn run(tally: &mut Tally) {
-    for shares in [[10000, 0, 0], [2147483646, 5000, 5001]] {
-        let found = converted(shares);
-        tally.case(found == 1809, || format!("{shares:?} to ring 13: {found}"));
+/// Decompositions to 11 bits in ring 13, then conversions; none is refused.
+fn values(tally: &mut Tally) {
+    let figures = [
+        (13, [1, 2, 2], 5, 11, 5),
+        (13, [8000, 100, 96], 5, 11, 5),
+        (13, [8000, 8000, 387], 5, 11, 5),
+        (13, [8190, 1, 0], 5, 11, 0),
+        (13, [2047, 0, 0], 5, 11, 2047),
+        (13, [2048, 0, 0], 5, 11, 1),
+        (13, [2047, 1, 0], 5, 11, 0),
+        (13, [8000, 100, 96], 6, 31, 5),
+        (13, [2048, 0, 0], 6, 31, 2147477504),
+        (13, [2048, 0, 0], 6, 13, 2048),
+        (31, [10000, 0, 0], 6, 13, 1809),
+        (31, [2147483646, 5000, 5001], 6, 13, 1809),
+    ];
+    for (width, shares, kind, field, value) in figures {
+        let gates = if kind == 5 { 34 } else { 5 };
+        let found = opened(width, shares, kind, field);
+        tally.case(found == ([0, 0, gates], value), || {
+            format!("kind {kind} of {shares:?} at {field}: {found:?}")
+        });
     }
+}
+
+/// Gates spent, and the refusal where the tapes hold one item less.
+fn counts(tally: &mut Tally) {
     let counts = [
         (31, 5, 29, 88),
         (61, 5, 29, 88),
@@ -54,4 +77,9 @@ pub fn run(tally: &mut Tally) {
             });
         }
     }
+}
+
+pub fn run(tally: &mut Tally) {
+    values(tally);
+    counts(tally);
 }

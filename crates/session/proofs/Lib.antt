@@ -2,6 +2,7 @@ pub mod AdvanceLaw
 pub mod ChunkLaw
 pub mod EndLaw
 pub mod FeedLaw
+pub mod GrownLaw
 pub mod OutputLaw
 pub mod RecordLaw
 pub mod ReplyLaw

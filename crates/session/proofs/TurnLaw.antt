@@ -100,9 +100,6 @@ same-masks e fit = record { zero = fit .zero; one = fit .one; two = fit .two; fe
 pub same-dealer : {s u : Counts} {dealer : List ℕ} → u .dealer ≡ s .dealer → DealerFits s dealer → DealerFits u dealer
 same-dealer e fit = record { run = fit .run; few = omega (arith, e, fit .few) }
 
-pub counts-same : {s u : Counts} {t₀ t₁ t₂ dealer : List ℕ} → u ≡ s → MasksFit s t₀ t₁ t₂ × DealerFits s dealer → MasksFit u t₀ t₁ t₂ × DealerFits u dealer
-counts-same e fit = (same-masks (ap (λ (n : Counts). n .masks) e) (fit .0), same-dealer (ap (λ (n : Counts). n .dealer) e) (fit .1))
-
 pub more-masks : (s : Counts) {u : Counts} (t₀ t₁ t₂ : List ℕ) (i₀ i₁ i₂ : ℕ) → u .masks ≡ s .masks + 1 → s .masks < most
     → MasksFit s t₀ t₁ t₂ → MasksFit u (set t₀ (s .masks) i₀) (set t₁ (s .masks) i₁) (set t₂ (s .masks) i₂)
 more-masks s t₀ t₁ t₂ i₀ i₁ i₂ e h fit =

@@ -3,7 +3,7 @@ use Prim.Native.Nat.{ℕ, _≤_}
 use mathlib.Core.Bool.{true}
 use mathlib.Core.List.{List}
 use mathlib.Core.Path.{_≡_}
-use lib.ListN.{length, replicate, take}
+use lib.ListN.{drop, length, replicate, take}
 use Rattle.gate.specs.Places.{Place}
 use Rattle.machine.specs.Registers.{emptyMachine, sound}
 use Rattle.machine.specs.declared.registers.Machine.{Machine}
@@ -60,3 +60,10 @@ pub record MasksFit (n : Counts) (t₀ t₁ t₂ : List ℕ) : Type 0 where
 pub record DealerFits (n : Counts) (dealer : List ℕ) : Type 0 where
   pub run : length dealer ≡ most
   pub few : n .dealer ≤ most
+
+-- from n lines of each kind to k: the tapes' runs after the lines taken stand as they were
+pub record Grown (n k : Counts) (T U : Place → List ℕ) (d e : List ℕ) : Type 0 where
+  pub moreMasks : n .masks ≤ k .masks
+  pub moreItems : n .dealer ≤ k .dealer
+  pub masks : (i : Place) → drop (k .masks) (U i) ≡ drop (k .masks) (T i)
+  pub items : drop (k .dealer) e ≡ drop (k .dealer) d

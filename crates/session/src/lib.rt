@@ -4,6 +4,7 @@ mod progress;
 mod replies;
 mod turns;
 
+pub use lines::LAST_LINE;
 pub use lines::Printed;
 pub use lines::feed;
 pub use lines::finish;

@@ -4,7 +4,7 @@ ghost use Prim.Native.Nat.{_+_, _*_, _≤_, _<_};
 ghost use lib.ListN.{drop, length};
 ghost use Rattle.gate.specs.Places.{three};
 ghost use Rattle.line.specs.Printed.{Wrote};
-ghost use Rattle.session.specs.Kept.{DealerFits, MasksFit, RecordFits, standingOf};
+ghost use Rattle.session.specs.Kept.{DealerFits, Grown, MasksFit, RecordFits, standingOf};
 ghost use Rattle.session.specs.Standings.{Advanced, afterBytes, afterEnd, afterLast, printedAt, printedBy, printedLast};
 use crate::progress::Progress;
 use crate::replies::print_reply;
@@ -12,7 +12,7 @@ use crate::turns::take_command;
 use line::take_line;
 
 // 01: "Reading stops after line 1,000,000".
-const LAST_LINE: u64 = 1_000_000;
+pub const LAST_LINE: u64 = 1_000_000;
 
 // Where a job stands, and the place after what was printed.
 pub struct Printed {
@@ -51,6 +51,7 @@ fn end_line(
     ensures machine { λ r. ⌜ RecordFits (now («record» .exit)) ⌝ }
     ensures masks { λ r. ⌜ MasksFit (r .progress .counts) (now (m0 .exit)) (now (m1 .exit)) (now (m2 .exit)) ⌝ }
     ensures dealer { λ r. ⌜ DealerFits (r .progress .counts) (now (dealer .exit)) ⌝ }
+    ensures rest { λ r. ⌜ Grown (p .counts) (r .progress .counts) (three (now (m0 .entry)) (now (m1 .entry)) (now (m2 .entry))) (three (now (m0 .exit)) (now (m1 .exit)) (now (m2 .exit))) (now (dealer .entry)) (now (dealer .exit)) ⌝ }
 {
     let counts = p.counts;
     if LAST_LINE <= p.lines {
@@ -100,6 +101,7 @@ fn take_one(
     ensures machine { λ r. ⌜ RecordFits (now («record» .exit)) ⌝ }
     ensures masks { λ r. ⌜ MasksFit (r .progress .counts) (now (m0 .exit)) (now (m1 .exit)) (now (m2 .exit)) ⌝ }
     ensures dealer { λ r. ⌜ DealerFits (r .progress .counts) (now (dealer .exit)) ⌝ }
+    ensures rest { λ r. ⌜ Grown (p .counts) (r .progress .counts) (three (now (m0 .entry)) (now (m1 .entry)) (now (m2 .entry))) (three (now (m0 .exit)) (now (m1 .exit)) (now (m2 .exit))) (now (dealer .entry)) (now (dealer .exit)) ⌝ }
 {
     let reading = p.reading;
     let counts = p.counts;
@@ -151,6 +153,7 @@ pub fn feed(
     ensures machine { λ r. ⌜ RecordFits (now («record» .exit)) ⌝ }
     ensures masks { λ r. ⌜ MasksFit (r .progress .counts) (now (m0 .exit)) (now (m1 .exit)) (now (m2 .exit)) ⌝ }
     ensures dealer { λ r. ⌜ DealerFits (r .progress .counts) (now (dealer .exit)) ⌝ }
+    ensures rest { λ r. ⌜ Grown (p .counts) (r .progress .counts) (three (now (m0 .entry)) (now (m1 .entry)) (now (m2 .entry))) (three (now (m0 .exit)) (now (m1 .exit)) (now (m2 .exit))) (now (dealer .entry)) (now (dealer .exit)) ⌝ }
 {
     let mut q = p;
     let mut i = 0;
@@ -184,6 +187,10 @@ pub fn finish(
     ensures is { λ r. ⌜ standingOf (r .progress) (now («record» .exit)) (now (m0 .exit)) (now (m1 .exit)) (now (m2 .exit)) (now (dealer .exit)) (three (now (c0 .exit)) (now (c1 .exit)) (now (c2 .exit))) ≡ afterLast (standingOf p (now («record» .entry)) (now (m0 .entry)) (now (m1 .entry)) (now (m2 .entry)) (now (dealer .entry)) (three (now (c0 .entry)) (now (c1 .entry)) (now (c2 .entry)))) ⌝ }
     ensures writes { λ r. ⌜ Wrote 0 (printedLast (standingOf p (now («record» .entry)) (now (m0 .entry)) (now (m1 .entry)) (now (m2 .entry)) (now (dealer .entry)) (three (now (c0 .entry)) (now (c1 .entry)) (now (c2 .entry))))) (now (out .entry)) (now (out .exit)) (r .at) ⌝ }
     ensures within { λ r. ⌜ r .at ≤ length (now (out .exit)) ⌝ }
+    ensures machine { λ r. ⌜ RecordFits (now («record» .exit)) ⌝ }
+    ensures masks { λ r. ⌜ MasksFit (r .progress .counts) (now (m0 .exit)) (now (m1 .exit)) (now (m2 .exit)) ⌝ }
+    ensures dealer { λ r. ⌜ DealerFits (r .progress .counts) (now (dealer .exit)) ⌝ }
+    ensures rest { λ r. ⌜ Grown (p .counts) (r .progress .counts) (three (now (m0 .entry)) (now (m1 .entry)) (now (m2 .entry))) (three (now (m0 .exit)) (now (m1 .exit)) (now (m2 .exit))) (now (dealer .entry)) (now (dealer .exit)) ⌝ }
 {
     let reading = p.reading;
     if reading.seen {

@@ -1,5 +1,4 @@
 // What a line is answered.
-ghost use mathlib.Core.Path.{_≡_};
 ghost use Prim.Native.Nat.{_+_, _≤_};
 ghost use lib.ListN.{length};
 ghost use Rattle.line.specs.Printed.{Wrote};

@@ -3,7 +3,7 @@ ghost use mathlib.Core.List.{List};
 ghost use mathlib.Core.Path.{_≡_};
 ghost use Prim.Native.Nat.{ℕ};
 ghost use Rattle.gate.specs.Places.{Place, three};
-ghost use Rattle.session.specs.Kept.{DealerFits, MasksFit, RecordFits, stateOf, turnedOf};
+ghost use Rattle.session.specs.Kept.{DealerFits, Grown, MasksFit, RecordFits, stateOf, turnedOf};
 ghost use Rattle.session.specs.Outputs.{declined, itemTaken, masksTaken, ordered, taken};
 use crate::progress::Counts;
 use crate::progress::Turn;
@@ -45,6 +45,7 @@ fn add_masks(
     ensures is { λ r. ⌜ ((ws dealer : List ℕ) (c : Place → List ℕ) → turnedOf r ws (now (m0 .exit)) (now (m1 .exit)) (now (m2 .exit)) dealer c ≡ masksTaken (stateOf n ws (now (m0 .entry)) (now (m1 .entry)) (now (m2 .entry)) dealer c) i0 i1 i2) ⌝ }
     ensures fits { λ r. ⌜ MasksFit (r .counts) (now (m0 .exit)) (now (m1 .exit)) (now (m2 .exit)) ⌝ }
     ensures dealer { λ r. ⌜ r .counts .dealer ≡ n .dealer ⌝ }
+    ensures rest { λ r. ⌜ ((dealer : List ℕ) → Grown n (r .counts) (three (now (m0 .entry)) (now (m1 .entry)) (now (m2 .entry))) (three (now (m0 .exit)) (now (m1 .exit)) (now (m2 .exit))) dealer dealer) ⌝ }
 {
     let at = n.masks;
     if MOST <= at {
@@ -68,6 +69,7 @@ fn add_item(n: Counts, item: u64, dealer: &mut [u64]) -> Turn
     ensures is { λ r. ⌜ ((ws t₀ t₁ t₂ : List ℕ) (c : Place → List ℕ) → turnedOf r ws t₀ t₁ t₂ (now (dealer .exit)) c ≡ itemTaken (stateOf n ws t₀ t₁ t₂ (now (dealer .entry)) c) item) ⌝ }
     ensures fits { λ r. ⌜ DealerFits (r .counts) (now (dealer .exit)) ⌝ }
     ensures masks { λ r. ⌜ r .counts .masks ≡ n .masks ⌝ }
+    ensures rest { λ r. ⌜ ((T : Place → List ℕ) → Grown n (r .counts) T T (now (dealer .entry)) (now (dealer .exit))) ⌝ }
 {
     let at = n.dealer;
     if MOST <= at {
@@ -147,6 +149,7 @@ pub fn take_command(
     ensures machine { λ r. ⌜ RecordFits (now («record» .exit)) ⌝ }
     ensures masks { λ r. ⌜ MasksFit (r .counts) (now (m0 .exit)) (now (m1 .exit)) (now (m2 .exit)) ⌝ }
     ensures dealer { λ r. ⌜ DealerFits (r .counts) (now (dealer .exit)) ⌝ }
+    ensures rest { λ r. ⌜ Grown n (r .counts) (three (now (m0 .entry)) (now (m1 .entry)) (now (m2 .entry))) (three (now (m0 .exit)) (now (m1 .exit)) (now (m2 .exit))) (now (dealer .entry)) (now (dealer .exit)) ⌝ }
 {
     match command {
         Command::Masks { t0, t1, t2 } => add_masks(n, t0, t1, t2, m0, m1, m2),

@@ -2,9 +2,13 @@
 ghost use mathlib.Core.Path.{_≡_};
 ghost use Prim.Native.Nat.{_*_, _≤_, _<_};
 ghost use lib.ListN.{length};
-ghost use Rattle.session.specs.Kept.{DealerFits, MasksFit, RecordFits, emptyWords, noLines};
+ghost use Rattle.gate.specs.Places.{three};
+ghost use Rattle.session.specs.Kept.{DealerFits, MasksFit, RecordFits, emptyWords, noLines, standingOf};
+ghost use Rattle.session.specs.Outputs.{zeroWords};
+ghost use Rattle.survey.specs.Chunks.{Ended, Reached, Took};
 use libc::STDIN_FILENO;
 use libc::STDOUT_FILENO;
+use session::LAST_LINE;
 use session::Progress;
 use session::feed;
 use session::finish;
@@ -34,6 +38,7 @@ fn take_chunk(
     requires masks { ⌜ MasksFit (p .counts) (now m0) (now m1) (now m2) ⌝ }
     requires dealer { ⌜ DealerFits (p .counts) (now dealer) ⌝ }
     requires room { ⌜ 105 * length (now buf) ≤ length (now out) ⌝ }
+    ensures took { λ r. ⌜ Took (standingOf p (now («record» .entry)) (now (m0 .entry)) (now (m1 .entry)) (now (m2 .entry)) (now (dealer .entry)) (three (now (c0 .entry)) (now (c1 .entry)) (now (c2 .entry)))) (standingOf (r .progress) (now («record» .exit)) (now (m0 .exit)) (now (m1 .exit)) (now (m2 .exit)) (now (dealer .exit)) (three (now (c0 .exit)) (now (c1 .exit)) (now (c2 .exit)))) (now (buf .exit)) (now (out .entry)) (now (out .exit)) ⌝ }
     ensures machine { λ r. ⌜ RecordFits (now («record» .exit)) ⌝ }
     ensures masks { λ r. ⌜ MasksFit (r .progress .counts) (now (m0 .exit)) (now (m1 .exit)) (now (m2 .exit)) ⌝ }
     ensures dealer { λ r. ⌜ DealerFits (r .progress .counts) (now (dealer .exit)) ⌝ }
@@ -52,7 +57,7 @@ fn take_chunk(
     let is_written = io::write_all(STDOUT_FILENO, &out[0..at]);
     Chunk {
         progress,
-        more: is_written & (progress.lines < 1_000_000),
+        more: is_written & (progress.lines < LAST_LINE),
     }
 }
 
@@ -80,7 +85,9 @@ fn take_input(
     requires machine { ⌜ now «record» ≡ emptyWords ⌝ }
     requires masks { ⌜ MasksFit noLines (now m0) (now m1) (now m2) ⌝ }
     requires dealer { ⌜ DealerFits noLines (now dealer) ⌝ }
+    requires channels { ⌜ ((now c0 ≡ zeroWords) × ((now c1 ≡ zeroWords) × (now c2 ≡ zeroWords))) ⌝ }
     requires room { ⌜ 105 * length (now buf) ≤ length (now out) ⌝ }
+    ensures reached { λ r. ⌜ Reached (standingOf r (now («record» .exit)) (now (m0 .exit)) (now (m1 .exit)) (now (m2 .exit)) (now (dealer .exit)) (three (now (c0 .exit)) (now (c1 .exit)) (now (c2 .exit)))) ⌝ }
     ensures machine { λ r. ⌜ RecordFits (now («record» .exit)) ⌝ }
     ensures masks { λ r. ⌜ MasksFit (r .counts) (now (m0 .exit)) (now (m1 .exit)) (now (m2 .exit)) ⌝ }
     ensures dealer { λ r. ⌜ DealerFits (r .counts) (now (dealer .exit)) ⌝ }
@@ -112,6 +119,7 @@ fn end_input(
     requires masks { ⌜ MasksFit (p .counts) (now m0) (now m1) (now m2) ⌝ }
     requires dealer { ⌜ DealerFits (p .counts) (now dealer) ⌝ }
     requires room { ⌜ 105 ≤ length (now out) ⌝ }
+    ensures { λ _. ⌜ Ended (standingOf p (now («record» .entry)) (now (m0 .entry)) (now (m1 .entry)) (now (m2 .entry)) (now (dealer .entry)) (three (now (c0 .entry)) (now (c1 .entry)) (now (c2 .entry)))) (now (out .entry)) (now (out .exit)) ⌝ }
 {
     let last = finish(p, record, m0, m1, m2, dealer, c0, c1, c2, out);
     let at = last.at;

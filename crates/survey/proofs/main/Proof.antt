@@ -15,7 +15,7 @@ sizes c κs = (
   refl {a = replicate {A = ℕ} 83 0},
   (
     record { zero = zeros 512; one = zeros 512; two = zeros 512; few = omega arith },
-    (record { run = zeros 512; few = omega arith }, omega (arith, zeros 2496, zeros 262080)),
+    (record { run = zeros 512; few = omega arith }, ((refl, (refl, refl)), omega (arith, zeros 2496, zeros 262080))),
   ),
 )
 
@@ -23,7 +23,7 @@ ends : tie.Need-end-input-requires
 ends c κs =
     let given = c .before .before .before .before .before .before .before .before .before in
     let told = given .before .before .before .before .before .before .before .before .before .before .take-input .ensures in
-    (told .0, (told .1 .0, (told .1 .1, omega (arith, given .out2 .given, zeros 262080))))
+    (told .1 .0, (told .1 .1 .0, (told .1 .1 .1, omega (arith, given .out2 .given, zeros 262080))))
 
 pub main-spec : {M : Type 1} → statement M
 main-spec =

@@ -10,13 +10,16 @@ use Rattle.session.specs.Kept.{standingOf, turnedOf}
 use Rattle.session.specs.Standings.{Standing}
 use Rattle.session.specs.declared.progress.Progress.{Progress}
 use Rattle.session.proofs.EndLaw.{by-reading, late-kept, late-printed, line-kept, line-printed}
+use Rattle.session.proofs.GrownLaw.{counts-left, counts-same}
 use Rattle.session.proofs.ReplyLaw.{wrote-none, wrote-same}
-use Rattle.session.proofs.TurnLaw.{counts-same}
 use Rattle.session.proofs.lines.end_line.Statement.{statement}
 use Rattle.session.proofs.lines.end_line.Tie as tie
 
 abbrev channelsAt : tie.Start → Place → List ℕ
 channelsAt a = three (a .args .c0 .now) (a .args .c1 .now) (a .args .c2 .now)
+
+abbrev masksAt : tie.Start → Place → List ℕ
+masksAt a = three (a .args .m0 .now) (a .args .m1 .now) (a .args .m2 .now)
 
 abbrev standsAt : tie.Start → Standing
 standsAt a =
@@ -63,7 +66,7 @@ done c =
       line-kept (words .0) (masks .0) (masks .1 .0) (masks .1 .1 .0) (dealer .0) channels (standsAt a) (called .take-command .result) (c .at-line2 .result) made is few,
       (
         wrote-same (line-printed (standsAt a) turn is few) (printed .print-reply .ensures .0),
-        (printed .print-reply .ensures .1, (told .1 .0, counts-same (ap (λ (q : Progress). q .counts) made) (told .1 .1))),
+        (printed .print-reply .ensures .1, (told .1 .0, counts-left (ap (λ (q : Progress). q .counts) made) {T = masksAt a} {U = three (masks .0) (masks .1 .0) (masks .1 .1 .0)} (told .1 .1))),
       ),
     )
 

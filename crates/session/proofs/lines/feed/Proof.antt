@@ -6,16 +6,18 @@ use native.Mathlib.Omega.{arith}
 use lib.ListN.{drop, drop-of-length-le, length}
 use Rattle.gate.specs.Places.{three}
 use Rattle.layout.proofs.SaysLaw.{says-length}
-use Rattle.session.specs.Kept.{standingOf}
+use Rattle.session.specs.Kept.{Grown, standingOf}
 use Rattle.session.proofs.AdvanceLaw.{advanced-all, advanced-none, advanced-on}
 use Rattle.session.proofs.FeedLaw.{Feeding}
+use Rattle.session.proofs.GrownLaw.{grown-none, grown-on}
 use Rattle.session.proofs.lines.feed.Statement.{statement}
 use Rattle.session.proofs.lines.feed.Tie as tie
 
 abbrev Inv-loop : tie.InvT-loop
 Inv-loop buf ws₀ m0₀ m1₀ m2₀ dealer₀ c0₀ c1₀ c2₀ out₀ q₀ i₀ at₀ ws m0 m1 m2 dealer c0 c1 c2 out q i at =
     Feeding buf (standingOf q₀ ws₀ m0₀ m1₀ m2₀ dealer₀ (three c0₀ c1₀ c2₀)) out₀ ws m0 m1 m2 dealer c0 c1 c2 out q i at
-    × ((length c0 ≡ length c0₀) × ((length c1 ≡ length c1₀) × (length c2 ≡ length c2₀)))
+    × (Grown (q₀ .counts) (q .counts) (three m0₀ m1₀ m2₀) (three m0 m1 m2) dealer₀ dealer
+    × ((length c0 ≡ length c0₀) × ((length c1 ≡ length c1₀) × (length c2 ≡ length c2₀))))
 
 abbrev μ-loop : tie.MeasureT-loop
 μ-loop buf ws₀ m0₀ m1₀ m2₀ dealer₀ c0₀ c1₀ c2₀ out₀ q₀ i₀ at₀ ws m0 m1 m2 dealer c0 c1 c2 out q i at = length buf - i
@@ -32,7 +34,7 @@ loop-holds c =
         masks = a .pre .1 .0;
         items = a .pre .1 .1 .0;
       },
-      (refl, (refl, refl)),
+      (grown-none _ _ _ refl, (refl, (refl, refl))),
     )
 
 abbrev entered : tie.After-take-one-arg9 Inv-loop μ-loop → tie.In-loop Inv-loop μ-loop
@@ -77,9 +79,9 @@ loop-again c =
         long = omega (arith, inv .0 .long);
         machine = told .1 .1 .1 .1 .0;
         masks = told .1 .1 .1 .1 .1 .0;
-        items = told .1 .1 .1 .1 .1 .1;
+        items = told .1 .1 .1 .1 .1 .1 .0;
       },
-      (omega (arith, inv .1 .0), (omega (arith, inv .1 .1 .0), omega (arith, inv .1 .1 .1))),
+      (grown-on {W = three {A = List ℕ} (left .0) (left .1 .0) (left .1 .1 .0)} {f = left .1 .1 .1 .0} (inv .1 .0) (told .1 .1 .1 .1 .1 .1 .1), (omega (arith, inv .1 .1 .0), (omega (arith, inv .1 .1 .1 .0), omega (arith, inv .1 .1 .1 .1)))),
     )
 
 same-record : tie.Need-same-length Inv-loop μ-loop
@@ -92,7 +94,7 @@ returns : tie.Need-returns Inv-loop μ-loop
 returns c =
     let inv = c .before .loop .inv .0 in
     let all = advanced-all (inv .done) (drop-of-length-le _ (over c)) in
-    (all .0, (all .1, (omega (arith, inv .short, inv .within, inv .long, start (c .before) .pre .1 .1 .1), (inv .machine, (inv .masks, inv .items)))))
+    (all .0, (all .1, (omega (arith, inv .short, inv .within, inv .long, start (c .before) .pre .1 .1 .1), (inv .machine, (inv .masks, (inv .items, c .before .loop .inv .1 .0))))))
 
 pub feed-spec : {M : Type 1} → statement M
 feed-spec =

@@ -1,5 +1,6 @@
 -- A line that ends in the chunk, or the rest of the chunk.
 use Prim.Native.Nat.{_+_, _≤_, _<_}
+use mathlib.Core.Path.{refl}
 use mir.Syntax.{w64}
 use mir.Val.{Fits}
 use native.Mathlib.Omega.{arith}
@@ -9,6 +10,7 @@ use Rattle.gate.specs.Places.{three}
 use Rattle.session.specs.Kept.{standingOf}
 use Rattle.session.specs.Standings.{Standing}
 use Rattle.session.proofs.AdvanceLaw.{advanced-closed, advanced-open, stop-within}
+use Rattle.session.proofs.GrownLaw.{grown-none}
 use Rattle.session.proofs.lines.take_one.Statement.{statement}
 use Rattle.session.proofs.lines.take_one.Tie as tie
 
@@ -39,7 +41,7 @@ rest c =
     let stops = within taken in (
       advanced-open (standsAt a) (a .args .buf .now) (a .args .i) (taken .take-line .result .at) (taken .take-line .result .reading)
           (taken .take-line .ensures .0) (taken .take-line .ensures .1) (a .args .at) (a .args .out .now) (omega arith),
-      (omega arith, (stops, (omega arith, (a .pre .0, (a .pre .1 .0, a .pre .1 .1 .0))))),
+      (omega arith, (stops, (omega arith, (a .pre .0, (a .pre .1 .0, (a .pre .1 .1 .0, grown-none _ _ _ refl)))))),
     )
 
 inside : (c : tie.Else1) → c .before .before .take-line .result .at < length (start (c .before .before) .args .buf .now)

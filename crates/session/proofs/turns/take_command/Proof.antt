@@ -5,12 +5,16 @@ use borrow.Author.Needs.{needs}
 use Rattle.gate.specs.Places.{Place, three}
 use Rattle.session.specs.Kept.{stateOf, turnedOf}
 use Rattle.session.specs.Outputs.{State}
-use Rattle.session.proofs.TurnLaw.{by-command, counts-same, same-dealer, same-masks}
+use Rattle.session.proofs.GrownLaw.{counts-same}
+use Rattle.session.proofs.TurnLaw.{by-command, same-dealer, same-masks}
 use Rattle.session.proofs.turns.take_command.Statement.{statement}
 use Rattle.session.proofs.turns.take_command.Tie as tie
 
 abbrev channelsAt : tie.Start → Place → List ℕ
 channelsAt a = three (a .args .c0 .now) (a .args .c1 .now) (a .args .c2 .now)
+
+abbrev masksAt : tie.Start → Place → List ℕ
+masksAt a = three (a .args .m0 .now) (a .args .m1 .now) (a .args .m2 .now)
 
 abbrev stateAt : tie.Start → State
 stateAt a = stateOf (a .args .n) (a .args .«record» .now) (a .args .m0 .now) (a .args .m1 .now) (a .args .m2 .now) (a .args .dealer .now) (channelsAt a)
@@ -27,7 +31,7 @@ masks c =
     let left = called .add-masks .last .1 .1 .1 .1 in
     let ws = a .args .«record» .now in
     let x = turnedOf (called .add-masks .result) ws (left .0) (left .1 .0) (left .1 .1 .0) (a .args .dealer .now) (channelsAt a) in
-    (by-command {x = x} (stateAt a) (said .command .given .1) (told .0 ws (a .args .dealer .now) (channelsAt a)), (a .pre .0, (told .1 .0, same-dealer (told .1 .1) (a .pre .1 .1))))
+    (by-command {x = x} (stateAt a) (said .command .given .1) (told .0 ws (a .args .dealer .now) (channelsAt a)), (a .pre .0, (told .1 .0, (same-dealer (told .1 .1 .0) (a .pre .1 .1), told .1 .1 .1 (a .args .dealer .now)))))
 
 item : tie.Need-returns-2
 item c =
@@ -35,7 +39,7 @@ item c =
     let said = called .before .before .before in
     let a = start (said .before .before) in
     let told = called .add-item .ensures in
-    (by-command (stateAt a) (said .command2 .given .1) (told .0 _ _ _ _ (channelsAt a)), (a .pre .0, (same-masks (told .1 .1) (a .pre .1 .0), told .1 .0)))
+    (by-command (stateAt a) (said .command2 .given .1) (told .0 _ _ _ _ (channelsAt a)), (a .pre .0, (same-masks (told .1 .1 .0) (a .pre .1 .0), (told .1 .0, told .1 .1 .1 (masksAt a)))))
 
 order : tie.Need-returns-3
 order c =
