@@ -13,11 +13,11 @@ use Rattle.machine.specs.Checks.{Tapes}
 use Rattle.machine.specs.Step.{Outcome, step}
 use Rattle.machine.specs.Registers.{sound}
 use Rattle.machine.specs.declared.answers.Answer.{Answer}
+use Rattle.machine.specs.declared.orders.OfKind.{OfKind}
+use Rattle.machine.specs.declared.orders.OfKind.the-variants.{Named, NoOrder}
 use Rattle.machine.specs.declared.orders.Order.{Order}
 use Rattle.machine.specs.declared.registers.Machine.{Machine}
 use Rattle.layout.specs.Layout.{MachineFound, answerWords, found, machineOf, none, orderOf, seenOf}
-use Rattle.layout.specs.declared.orders.OrderRead.{OrderRead}
-use Rattle.layout.specs.declared.orders.OrderRead.the-variants.{Found, NoOrder}
 use Rattle.layout.specs.declared.records.Seen.{Seen}
 use Rattle.order.specs.Answers.{refusalOf}
 use Rattle.step.specs.Words.{Reports}
@@ -30,8 +30,8 @@ cond-same : {A : Type 0} (b : Bool) (u : A) → cond b u u ≡ u
 cond-same true u = refl
 cond-same false u = refl
 
-no-machine : (r : OrderRead) (T : Tapes) (c : Place → List ℕ) (u : Left) → stepRead r none T c u ≡ u
-no-machine (Found o) T c u = refl
+no-machine : (r : OfKind) (T : Tapes) (c : Place → List ℕ) (u : Left) → stepRead r none T c u ≡ u
+no-machine (Named o) T c u = refl
 no-machine NoOrder T c u = refl
 
 -- an answer of another length than 3
@@ -48,7 +48,7 @@ unfolding stepWords
 record-unread o m a T c e = rw (e, no-machine, cond-same)
 
 pub step-read : (o m a : List ℕ) (T : Tapes) (c : Place → List ℕ) {k : Order} {s : Machine}
-    → length a ≡ 3 → orderOf o ≡ Found k → machineOf m ≡ found s → leftBy (step k s T c) ≡ stepWords o m a T c
+    → length a ≡ 3 → orderOf o ≡ Named k → machineOf m ≡ found s → leftBy (step k s T c) ≡ stepWords o m a T c
 unfolding stepWords
 step-read o m a T c n e f = rw (eq-eqb (length a) 3 n, e, f)
 

@@ -7,10 +7,10 @@ use lib.ListN.{length}
 use Rattle.gate.specs.Places.{Place}
 use Rattle.machine.specs.Checks.{Tapes}
 use Rattle.machine.specs.Step.{Outcome, step}
+use Rattle.machine.specs.declared.orders.OfKind.{OfKind}
+use Rattle.machine.specs.declared.orders.OfKind.the-variants.{Named, NoOrder}
 use Rattle.tape.specs.Tapes as prepared
 use Rattle.layout.specs.Layout.{MachineFound, found, machineOf, machineWords, none, orderOf}
-use Rattle.layout.specs.declared.orders.OrderRead.{OrderRead}
-use Rattle.layout.specs.declared.orders.OrderRead.the-variants.{Found, NoOrder}
 
 -- the number returned for words in no layout, past 01's refusals
 abbrev pub malformed : ℕ
@@ -31,9 +31,9 @@ abbrev pub leftBy : Outcome → Left
 leftBy o = left (o .refusal) (machineWords (o .machine)) (o .refusal ∷ o .value ∷ o .gates ∷ []) (o .channels)
 
 -- a step where order and record are read, else what the last argument leaves
-abbrev pub stepRead : OrderRead → MachineFound → Tapes → (Place → List ℕ) → Left → Left
-stepRead (Found o) (found m) T c u = leftBy (step o m T c)
-stepRead (Found o) none T c u = u
+abbrev pub stepRead : OfKind → MachineFound → Tapes → (Place → List ℕ) → Left → Left
+stepRead (Named o) (found m) T c u = leftBy (step o m T c)
+stepRead (Named o) none T c u = u
 stepRead NoOrder f T c u = u
 
 -- malformed and nothing changed for words in no layout, else 01's step

@@ -3,10 +3,10 @@ ghost use mathlib.Core.Path.{_≡_};
 ghost use Rattle.gate.specs.Places.{three};
 ghost use Rattle.interface.specs.Calls.{left, stepWords};
 use crate::MALFORMED;
-use layout::OrderRead;
 use layout::read_order;
 use layout::see;
 use layout::write_answer;
+use machine::OfKind;
 use order::refusal;
 use step::step_words;
 
@@ -34,8 +34,8 @@ pub extern "C" fn survey_step(
         return MALFORMED;
     }
     match read_order(order) {
-        OrderRead::NoOrder => MALFORMED,
-        OrderRead::Found(o) => {
+        OfKind::NoOrder => MALFORMED,
+        OfKind::Named(o) => {
             let given = step_words(seen.sound, o, record, m0, m1, m2, dealer, c0, c1, c2);
             write_answer(given, answer);
             refusal(given)

@@ -12,6 +12,7 @@ use Rattle.ring.specs.declared.rings.OfWidth.{OfWidth}
 use Rattle.ring.specs.declared.rings.OfWidth.the-variants.{Named, NoRing}
 use Rattle.ring.specs.declared.rings.Ring.the-variants.{R13, R31, R61}
 use Rattle.gate.specs.declared.sharing.Sharing.{Sharing}
+use Rattle.machine.specs.declared.orders.OfKind.the-variants as kinds
 use Rattle.machine.specs.declared.orders.Order.{Order}
 use Rattle.machine.specs.declared.orders.Order.the-variants.{Add, Compose, Convert, Deal, Decompose, Multiply, Open, Scale, Shift}
 use Rattle.machine.specs.declared.registers.Machine.{Machine}
@@ -20,16 +21,16 @@ use Rattle.machine.specs.declared.registers.Register.the-variants.{Bits, Empty,
 use Rattle.machine.specs.declared.registers.Slot.{Slot}
 use Rattle.machine.proofs.KindLaw.{left-true, right-true}
 use Rattle.order.proofs.PrepareLaw.{width-named}
+use Rattle.machine.specs.Orders.{ofKind}
 use Rattle.machine.specs.Registers.{emptyMachine, slot}
 use Rattle.layout.specs.Layout.{MachineFound, before, emptyFrom, found, machineFrom, machineOf, machineWords, none, numberFrom, openFrom, orderFrom, orderOf, orderWords, registerFrom, registerOf, registerWords, slotsWords}
 use Rattle.layout.specs.Theorems.{EmptyIsZeros, MachineBack, MachineLength, MachineWritten, OrderBack, OrderWritten}
-use Rattle.layout.specs.declared.orders.OrderRead.the-variants as read
 use Rattle.layout.specs.declared.registers.RegisterRead.{RegisterRead}
 use Rattle.layout.specs.declared.registers.RegisterRead.the-variants.{Found, NoRegister}
 use Rattle.layout.proofs.WriteLaw.{slots-length}
 
 pub order-back : OrderBack
-unfolding orderOf orderFrom
+unfolding orderOf orderFrom ofKind
 order-back (Deal d e v) = refl
 order-back (Add d x y) = refl
 order-back (Scale d x c) = refl
@@ -151,11 +152,11 @@ machine-written ws m =
     (λ _ is. let wrong : _≡_ {A = ℕ} 0 1 = cc in absurd (omega arith))
 
 module _ (k a b c : ℕ) (o : Order) where
-  kind : (q : Order) (j : ℕ) → orderWords q ≡ j ∷ a ∷ b ∷ c ∷ [] → eqb k j ≡ true → read.Found q ≡ read.Found o
+  kind : (q : Order) (j : ℕ) → orderWords q ≡ j ∷ a ∷ b ∷ c ∷ [] → eqb k j ≡ true → kinds.Named q ≡ kinds.Named o
       → orderWords o ≡ k ∷ a ∷ b ∷ c ∷ []
   kind q j words e is = let same : q ≡ o = cc in rw (eqb-true k j e) (sym (ap orderWords same) ∙ words)
 
-  opening : eqb k 9 ≡ true → openFrom a b c ≡ read.Found o → orderWords o ≡ k ∷ a ∷ b ∷ c ∷ []
+  opening : eqb k 9 ≡ true → openFrom a b c ≡ kinds.Named o → orderWords o ≡ k ∷ a ∷ b ∷ c ∷ []
   opening e =
       chosen (eqb b 0 && eqb c 0)
       (λ zeros is.
@@ -164,18 +165,18 @@ module _ (k a b c : ℕ) (o : Order) where
       kind (Open a) 9 (rw (z, z′)) e is)
       (λ _ is. cc)
 
-  order-from : orderFrom k a b c ≡ read.Found o → orderWords o ≡ k ∷ a ∷ b ∷ c ∷ []
-  unfolding orderFrom
+  order-from : orderFrom k a b c ≡ kinds.Named o → orderWords o ≡ k ∷ a ∷ b ∷ c ∷ []
+  unfolding orderFrom ofKind
   order-from =
-      chosen (eqb k 1) (kind (Deal a b c) 1 refl)
+      chosen (eqb k 9) opening
+      (λ _. chosen (eqb k 1) (kind (Deal a b c) 1 refl)
       (λ _. chosen (eqb k 2) (kind (Add a b c) 2 refl)
       (λ _. chosen (eqb k 3) (kind (Scale a b c) 3 refl)
       (λ _. chosen (eqb k 4) (kind (Multiply a b c) 4 refl)
       (λ _. chosen (eqb k 5) (kind (Decompose a b c) 5 refl)
       (λ _. chosen (eqb k 6) (kind (Convert a b c) 6 refl)
       (λ _. chosen (eqb k 7) (kind (Shift a b c) 7 refl)
-      (λ _. chosen (eqb k 8) (kind (Compose a b c) 8 refl)
-      (λ _. chosen (eqb k 9) opening (λ _ is. cc)))))))))
+      (λ _. chosen (eqb k 8) (kind (Compose a b c) 8 refl) (λ _ is. cc)))))))))
 
 pub order-written : OrderWritten
 unfolding orderOf

@@ -9,8 +9,11 @@ use Rattle.ring.specs.Rings.{ringOf, widthOf}
 use Rattle.ring.specs.declared.rings.OfWidth.{OfWidth}
 use Rattle.ring.specs.declared.rings.OfWidth.the-variants.{Named, NoRing}
 use Rattle.gate.specs.declared.sharing.Sharing.{Sharing}
+use Rattle.machine.specs.Orders.{ofKind}
 use Rattle.machine.specs.Registers.{slot, sound}
 use Rattle.machine.specs.declared.answers.Answer.{Answer}
+use Rattle.machine.specs.declared.orders.OfKind.{OfKind}
+use Rattle.machine.specs.declared.orders.OfKind.the-variants as kinds
 use Rattle.machine.specs.declared.orders.Order.{Order}
 use Rattle.machine.specs.declared.orders.Order.the-variants.{Add, Compose, Convert, Deal, Decompose, Multiply, Open, Scale, Shift}
 use Rattle.machine.specs.declared.registers.Machine.{Machine}
@@ -18,8 +21,6 @@ use Rattle.machine.specs.declared.registers.Register.{Register}
 use Rattle.machine.specs.declared.registers.Register.the-variants.{Bits, Empty, Number}
 use Rattle.machine.specs.declared.registers.Slot.{Slot}
 use Rattle.order.specs.Answers.{gatesOf, refusalOf, valueOf}
-use Rattle.layout.specs.declared.orders.OrderRead.{OrderRead}
-use Rattle.layout.specs.declared.orders.OrderRead.the-variants as read
 use Rattle.layout.specs.declared.records.Seen.{Seen}
 use Rattle.layout.specs.declared.registers.RegisterRead.{RegisterRead}
 use Rattle.layout.specs.declared.registers.RegisterRead.the-variants.{Found, NoRegister}
@@ -115,22 +116,12 @@ seenOf (found m) = record { ok = true; sound = sound m }
 seenOf none = record { ok = false; sound = false }
 
 -- an opening's last two words are 0
-abbrev pub openFrom : (x a b : ℕ) → OrderRead
-openFrom x a b = cond (eqb a 0 && eqb b 0) (read.Found (Open x)) read.NoOrder
+abbrev pub openFrom : (x a b : ℕ) → OfKind
+openFrom x a b = cond (eqb a 0 && eqb b 0) (kinds.Named (Open x)) kinds.NoOrder
 
-unfoldable pub orderFrom : (kind a b c : ℕ) → OrderRead
-orderFrom k a b c =
-    cond (eqb k 1) (read.Found (Deal a b c))
-    (cond (eqb k 2) (read.Found (Add a b c))
-    (cond (eqb k 3) (read.Found (Scale a b c))
-    (cond (eqb k 4) (read.Found (Multiply a b c))
-    (cond (eqb k 5) (read.Found (Decompose a b c))
-    (cond (eqb k 6) (read.Found (Convert a b c))
-    (cond (eqb k 7) (read.Found (Shift a b c))
-    (cond (eqb k 8) (read.Found (Compose a b c))
-    (cond (eqb k 9) (openFrom a b c) read.NoOrder))))))))
+unfoldable pub orderFrom : (kind a b c : ℕ) → OfKind
+orderFrom k a b c = cond (eqb k 9) (openFrom a b c) (ofKind k a b c)
 
 -- the order that words say, where they say one
-unfoldable pub orderOf : List ℕ → OrderRead
-orderOf ws =
-    cond (eqb (length ws) 4) (orderFrom (getD ws 0 0) (getD ws 1 0) (getD ws 2 0) (getD ws 3 0)) read.NoOrder
+unfoldable pub orderOf : List ℕ → OfKind
+orderOf ws = cond (eqb (length ws) 4) (orderFrom (getD ws 0 0) (getD ws 1 0) (getD ws 2 0) (getD ws 3 0)) kinds.NoOrder

@@ -4,24 +4,24 @@ use mathlib.Core.List.{List}
 use mathlib.Core.Path.{_≡_}
 use lib.ListN.{length, replicate}
 use Rattle.machine.specs.Registers.{emptyMachine}
+use Rattle.machine.specs.declared.orders.OfKind.the-variants.{Named}
 use Rattle.machine.specs.declared.orders.Order.{Order}
 use Rattle.machine.specs.declared.registers.Machine.{Machine}
 use Rattle.layout.specs.Layout.{found, machineOf, machineWords, orderOf, orderWords}
-use Rattle.layout.specs.declared.orders.OrderRead.the-variants.{Found}
 
 -- reading what was written gives it back
 abbrev pub MachineBack : Type 0
 MachineBack = (m : Machine) → length (m .slots) ≡ 16 → machineOf (machineWords m) ≡ found m
 
 abbrev pub OrderBack : Type 0
-OrderBack = (o : Order) → orderOf (orderWords o) ≡ Found o
+OrderBack = (o : Order) → orderOf (orderWords o) ≡ Named o
 
 -- what is read was so written, and a record that is read has 16 registers
 abbrev pub MachineWritten : Type 0
 MachineWritten = (ws : List ℕ) (m : Machine) → machineOf ws ≡ found m → (machineWords m ≡ ws) × (length (m .slots) ≡ 16)
 
 abbrev pub OrderWritten : Type 0
-OrderWritten = (ws : List ℕ) (o : Order) → orderOf ws ≡ Found o → orderWords o ≡ ws
+OrderWritten = (ws : List ℕ) (o : Order) → orderOf ws ≡ Named o → orderWords o ≡ ws
 
 -- a record has 83 words
 abbrev pub MachineLength : Type 0

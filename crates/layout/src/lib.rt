@@ -5,7 +5,6 @@ mod records;
 mod registers;
 
 pub use answers::write_answer;
-pub use orders::OrderRead;
 pub use orders::read_order;
 pub use records::Seen;
 pub use records::register_at;

@@ -4,6 +4,7 @@ use mathlib.Core.Path.{_≡_, refl}
 use mathlib.Core.Bool.{true, _&&_}
 use mathlib.Core.List.{List, [], _∷_}
 use lib.Dec.{eqb, ltb}
+use Rattle.machine.specs.Orders.{ofKind}
 use Rattle.line.specs.Lines.{
   allDigits,
   commandOf,
@@ -76,5 +77,5 @@ pub no-leading-zero : theorem.NoLeadingZero
 no-leading-zero = decimals.no-leading-zero
 
 pub figures : theorem.Figures
-unfolding commandOf linesOf fieldsFrom numbersOf numberOf fits allDigits numberFrom withNumbers withOne withThree printed decimal decimalBy
+unfolding commandOf linesOf fieldsFrom numbersOf numberOf fits allDigits numberFrom withNumbers withOne withThree ofKind printed decimal decimalBy
 figures = (refl, refl, refl, refl, refl, refl, refl, refl, refl, refl, refl, refl)

@@ -5,6 +5,9 @@ use mathlib.Core.List.{List, [], _∷_, _++_}
 use mathlib.Core.Option.{Option, none, some}
 use lib.Dec.{eqb, leb, ltb}
 use lib.ListN.{length}
+use Rattle.machine.specs.Orders.{ofKind}
+use Rattle.machine.specs.declared.orders.OfKind.{OfKind}
+use Rattle.machine.specs.declared.orders.OfKind.the-variants.{Named, NoOrder}
 use Rattle.machine.specs.declared.orders.Order.the-variants as order
 use Rattle.line.specs.declared.commands.Command.{Command}
 use Rattle.line.specs.declared.commands.Command.the-variants.{Dealer, Masks, Order, Unreadable}
@@ -62,22 +65,18 @@ unfoldable pub numbersOf : List (List ℕ) → Option (List ℕ)
 numbersOf [] = some []
 numbersOf (f ∷ fs) = before (numberOf f) (numbersOf fs)
 
--- "kinds 1 to 9 are the orders", "9. Open (x)"; "kind 10 adds one dealer item"; "an unknown kind"
+-- "9. Open (x)"; "kind 10 adds one dealer item"; "an unknown kind"
 unfoldable pub withOne : (kind a : ℕ) → Command
 withOne k a = cond (eqb k 9) (Order (order.Open a)) (cond (eqb k 10) (Dealer a) Unreadable)
 
+-- "kinds 1 to 9 are the orders"; "an unknown kind"
+abbrev pub orderOr : OfKind → Command
+orderOr (Named o) = Order o
+orderOr NoOrder = Unreadable
+
 -- "Kind 0 adds t0,t1,t2 to the strands", "Fields are in the order given"
 unfoldable pub withThree : (kind a b c : ℕ) → Command
-withThree k a b c =
-    cond (eqb k 0) (Masks a b c)
-    (cond (eqb k 1) (Order (order.Deal a b c))
-    (cond (eqb k 2) (Order (order.Add a b c))
-    (cond (eqb k 3) (Order (order.Scale a b c))
-    (cond (eqb k 4) (Order (order.Multiply a b c))
-    (cond (eqb k 5) (Order (order.Decompose a b c))
-    (cond (eqb k 6) (Order (order.Convert a b c))
-    (cond (eqb k 7) (Order (order.Shift a b c))
-    (cond (eqb k 8) (Order (order.Compose a b c)) Unreadable))))))))
+withThree k a b c = cond (eqb k 0) (Masks a b c) (orderOr (ofKind k a b c))
 
 -- "a wrong count of fields": one number or three beside the kind, and no other count
 unfoldable pub withNumbers : List ℕ → Command

@@ -1,4 +1,5 @@
 pub mod Checks
+pub mod Orders
 pub mod Registers
 pub mod Step
 pub mod Work

@@ -6,6 +6,7 @@ mod registers;
 
 pub use answers::Answer;
 pub use answers::Refusal;
+pub use orders::OfKind;
 pub use orders::Order;
 pub use registers::MILLION;
 pub use registers::Machine;

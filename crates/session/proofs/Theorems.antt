@@ -9,6 +9,7 @@ use Rattle.ring.specs.Modular.{diff}
 use Rattle.ring.specs.Rings.{modulus, ringOf}
 use Rattle.gate.specs.Places.{total}
 use Rattle.machine.specs.Checks.{anyAbove15, firstMet, publicChecks}
+use Rattle.machine.specs.Orders.{ofKind}
 use Rattle.machine.specs.Registers.{emptyMachine, registerAt, sound, soundRegister, soundSlots, withRegister}
 use Rattle.machine.specs.Step.{checks, dealt, opened, step}
 use Rattle.line.specs.Lines.{
@@ -69,5 +70,5 @@ refused n s l ls = (
 )
 
 pub listing : theorem.Listing
-unfolding diff modulus ringOf total anyAbove15 firstMet publicChecks emptyMachine registerAt sound soundRegister soundSlots withRegister checks dealt opened step allDigits commandOf fieldsFrom fits linesOf numberFrom numberOf numbersOf withNumbers withOne withThree decimal decimalBy printed itemTaken ordered started outputFrom output
+unfolding diff modulus ringOf total anyAbove15 firstMet publicChecks emptyMachine registerAt sound soundRegister soundSlots withRegister checks dealt opened step allDigits commandOf fieldsFrom fits linesOf numberFrom numberOf numbersOf withNumbers withOne withThree ofKind decimal decimalBy printed itemTaken ordered started outputFrom output
 listing = (refl, refl, refl)

@@ -1,29 +1,29 @@
--- Each arm's number decides the definition's tests.
-use borrow.Author.Tests.{ne-eqb}
-use Rattle.line.specs.Lines.{withThree}
+-- Items for the mask tapes, or the order of its kind.
+use mathlib.Core.Path.{ap, sym, _∙_}
+use borrow.Author.Needs.{needs}
+use borrow.Author.Tests.{eq-eqb, ne-eqb}
+use Rattle.line.specs.Lines.{orderOr, withThree}
 use Rattle.line.proofs.commands.with_three.Statement.{statement}
 use Rattle.line.proofs.commands.with_three.Tie as tie
 
-unknown : tie.Need-returns-10
+masks : tie.Need-returns
+unfolding withThree
+masks c = rw (eq-eqb _ _ (c .if1 .taken))
+
+order : tie.Need-returns-2
+unfolding withThree
+order c =
+    let known = c .before in
+    let told = known .before .before in
+    rw (ne-eqb _ _ (told .before .if1 .left)) (ap orderOr (sym (known .o .given .1) ∙ told .of-kind .ensures))
+
+unknown : tie.Need-returns-3
 unfolding withThree
 unknown c =
-    let none = c .match .rest in
-    simp (
-      ne-eqb _ _ (none .1),
-      ne-eqb _ _ (none .0 .1),
-      ne-eqb _ _ (none .0 .0 .1),
-      ne-eqb _ _ (none .0 .0 .0 .1),
-      ne-eqb _ _ (none .0 .0 .0 .0 .1),
-      ne-eqb _ _ (none .0 .0 .0 .0 .0 .1),
-      ne-eqb _ _ (none .0 .0 .0 .0 .0 .0 .1),
-      ne-eqb _ _ (none .0 .0 .0 .0 .0 .0 .0 .1),
-      ne-eqb _ _ (none .0 .0 .0 .0 .0 .0 .0 .0 .1),
-    )
+    let told = c .before .before in
+    rw (ne-eqb _ _ (told .before .if1 .left)) (ap orderOr (sym (c .enum-told .given .1) ∙ told .of-kind .ensures))
 
 pub with-three-spec : {M : Type 1} → statement M
-unfolding withThree
 with-three-spec =
     tie.close
-    (tie.spec (λ c. rw (c .match .keys1)) (λ c. rw (c .match .keys2)) (λ c. rw (c .match .keys3))
-    (λ c. rw (c .match .keys4)) (λ c. rw (c .match .keys5)) (λ c. rw (c .match .keys6)) (λ c. rw (c .match .keys7))
-    (λ c. rw (c .match .keys8)) (λ c. rw (c .match .keys9)) unknown)
+    (tie.spec masks (λ c κs. search needs) (λ c. search needs) (λ c. search needs) order unknown)
