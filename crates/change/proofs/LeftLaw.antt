@@ -9,6 +9,7 @@ use lib.Seq.{take-nil, take-take}
 use Rattle.gate.specs.Places.{Place, next, p0, p1, p2, tabled}
 use Rattle.gate.proofs.PlaceLaw.{each}
 use Rattle.view.specs.Views.{around, lackedBy}
+use Rattle.view.proofs.AroundLaw.{each-around}
 use Rattle.machine.specs.Checks.{Lengths, Tapes, leftOf}
 use Rattle.machine.specs.Registers.{Public, publicOf}
 use Rattle.machine.specs.Step.{lengthsOf}
@@ -17,7 +18,6 @@ use Rattle.job.specs.Jobs.{AlikeEntries, Entry, lent}
 use Rattle.job.specs.Jobs as jobs
 use Rattle.job.specs.Secrecy.{Hidden, tapesWith}
 use Rattle.change.specs.Changes.{restOf}
-use Rattle.change.proofs.AroundLaw.{each-around}
 
 -- the items from a on of the first n are the first n - a of those from a on
 drop-take : (a n : ℕ) (l : List ℕ) → drop a (take n l) ≡ take (n - a) (drop a l)

@@ -11,6 +11,7 @@ use Rattle.gate.specs.Places.{Pair, Place, next, p0, p1, p2, parts, sharing, ta
 use Rattle.gate.proofs.PlaceLaw.{each}
 use Rattle.circuit.specs.Circuits.{Circuit, channelled, gatesOf, moduli, result, sent, starts}
 use Rattle.view.specs.Views.{Fits, around, decode, encode, lackedBy}
+use Rattle.view.proofs.AroundLaw.{each-around}
 use Rattle.view.proofs.Theorems.{items-fit-gates, items-of-words, words-fit-gates, words-of-items}
 use Rattle.machine.specs.Checks.{Tapes}
 use Rattle.machine.specs.Registers.{Kind, registerAt, registerOf, sharesOf, withRegister}
@@ -20,7 +21,6 @@ use Rattle.machine.specs.declared.registers.Machine.{Machine}
 use Rattle.party.specs.Own.{handedOf, receivedOf}
 use Rattle.job.specs.Secrecy.{Hidden}
 use Rattle.change.specs.Changes.{decoded, dealtAround}
-use Rattle.change.proofs.AroundLaw.{each-around}
 use Rattle.change.proofs.DealLaw.{items-back, items-below, pair-back, pair-below}
 use Rattle.change.proofs.PrefixLaw.{Agree, channelled-prefix, result-prefix, sent-prefix}
 

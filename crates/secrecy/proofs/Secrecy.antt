@@ -6,6 +6,7 @@ use mathlib.Core.Path.{_≡_, ap, refl, subst, sym, _∙_}
 use lib.ListN.{length}
 use Rattle.gate.specs.Places.{Place, next}
 use Rattle.view.specs.Views.{around, lackedBy}
+use Rattle.view.proofs.AroundLaw.{around-far, around-lacked, around-own, each-around}
 use Rattle.machine.specs.Checks.{Tapes}
 use Rattle.machine.specs.Registers.{emptyMachine, sound, soundRegister, soundSlots}
 use Rattle.machine.specs.declared.orders.Order.{Order}
@@ -15,7 +16,6 @@ use Rattle.job.specs.Jobs as jobs
 use Rattle.job.specs.Secrecy.{Change, Hidden, Hides, Meet, Secrecy, tapesWith}
 use Rattle.outcome.specs.Same.{Good, Same}
 use Rattle.change.specs.Changes.{Changed, restOf}
-use Rattle.change.proofs.AroundLaw.{around-far, around-lacked, around-own, each-around}
 use Rattle.change.proofs.InverseLaw.{change, inverse, unique}
 use Rattle.change.proofs.LeftLaw.{SameLengths}
 use Rattle.change.proofs.LevelLaw.{Level}
