@@ -11,7 +11,7 @@ use Rattle.ring.specs.Rings.{modulus}
 use Rattle.gate.specs.Places.{Place, tabled}
 use Rattle.machine.specs.Checks.{Lengths, Tapes, firstMet, publicChecks}
 use Rattle.machine.specs.Registers.{Public, kindAt, publicOf, registerAt, widthAt}
-use Rattle.machine.specs.Step.{Outcome, lengthsOf, valueOf}
+use Rattle.machine.specs.Step.{lengthsOf, valueOf}
 use Rattle.machine.specs.declared.orders.Order.{Order}
 use Rattle.machine.specs.declared.orders.Order.the-variants.{Add, Compose, Convert, Deal, Decompose, Multiply, Open, Scale, Shift}
 use Rattle.machine.specs.declared.registers.Machine.{Machine}

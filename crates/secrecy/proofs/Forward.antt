@@ -1,7 +1,7 @@
 -- A fair run of J goes to a fair run of K with the same views, order by order, beside one fair run of each.
 use Prim.Native.Nat.{ℕ}
 use mathlib.Core.Bool.{Bool, true}
-use mathlib.Core.List.{List, [], _∷_, map}
+use mathlib.Core.List.{List, _∷_, map}
 use mathlib.Core.Path.{_≡_, ap, ap₂, refl, subst, subst₂, sym, _∙_}
 use native.Mathlib.Omega.{arith}
 use lib.ListN.{length}
@@ -9,21 +9,20 @@ use Rattle.gate.specs.Places.{Place}
 use Rattle.machine.specs.Checks.{Lengths, Tapes, badItem, firstMet, leftOf, publicChecks}
 use Rattle.machine.specs.Registers.{Public, publicOf}
 use Rattle.machine.specs.Step.{Outcome, lengthsOf, performed, refused, step}
-use Rattle.machine.specs.Work.{Work, adjusts, computes, deals, opens, workOf}
+use Rattle.machine.specs.Work.{Work, workOf}
 use Rattle.machine.specs.declared.orders.Order.{Order}
 use Rattle.machine.specs.declared.orders.Order.the-variants.{Add, Compose, Convert, Deal, Decompose, Multiply, Open, Scale, Shift}
 use Rattle.machine.specs.declared.registers.Machine.{Machine}
 use Rattle.party.specs.Own.{Own, ownOf}
-use Rattle.job.specs.Jobs.{AlikeEntries, AlikeLists, AlikeOrders, Entry, FairFrom, FairOrder, RefusedNumber, TakesSmall, View, courseFrom, isOpening, lent, openedFrom, outcome, viewOf}
+use Rattle.job.specs.Jobs.{AlikeEntries, AlikeLists, AlikeOrders, Entry, FairFrom, FairOrder, RefusedNumber, courseFrom, isOpening, lent, openedFrom, outcome, viewOf}
 use Rattle.job.specs.Jobs as jobs
 use Rattle.job.specs.Secrecy.{Hidden, tapesWith}
 use Rattle.outcome.specs.Same.{Same}
-use Rattle.outcome.specs.Theorems.{valueAt}
 use Rattle.outcome.proofs.CheckLaw.{accepted, refused-is}
 use Rattle.outcome.proofs.Same.{keeps-same}
 use Rattle.outcome.proofs.Theorems.{channels-stand, opens-value, public-refusal}
-use Rattle.change.specs.Changes.{Changed, before, differ, end, go, item, itemsK, nextK, outcomeJ, outcomeK, restOf, skip}
-use Rattle.change.proofs.GoLaw.{alike-works, doneJ-is, doneK′, inside, left, left-by, left′, nextK-is, partner, rest-after}
+use Rattle.change.specs.Changes.{Changed, before, differ, end, go, item, itemsK, nextK, outcomeJ, restOf, skip}
+use Rattle.change.proofs.GoLaw.{doneK′, inside, left-by, nextK-is, partner, rest-after}
 use Rattle.change.proofs.InverseLaw.{kept-refusal, same-entry}
 use Rattle.change.proofs.LeftLaw.{SameLengths, lengths-same}
 use Rattle.change.proofs.LevelLaw.{Level, works-alike}

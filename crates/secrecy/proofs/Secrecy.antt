@@ -1,7 +1,6 @@
 -- Demand 3 (crate `job`, specs/Secrecy.antt).
 use Prim.Native.Nat.{ℕ}
-use mathlib.Core.Bool.{true}
-use mathlib.Core.List.{List, [], _∷_}
+use mathlib.Core.List.{List}
 use mathlib.Core.Path.{_≡_, ap, refl, subst, sym, _∙_}
 use lib.ListN.{length}
 use Rattle.gate.specs.Places.{Place, next}
@@ -11,9 +10,9 @@ use Rattle.machine.specs.Checks.{Tapes}
 use Rattle.machine.specs.Registers.{emptyMachine, sound, soundRegister, soundSlots}
 use Rattle.machine.specs.declared.orders.Order.{Order}
 use Rattle.party.specs.Own.{ownOf}
-use Rattle.job.specs.Jobs.{Alike, AlikeEntries, AlikeLists, AlikeOrders, Entry, Fair, IsRun, Job, Words, course, views}
+use Rattle.job.specs.Jobs.{Alike, AlikeLists, AlikeOrders, Entry, Fair, IsRun, Job, Words, course, views}
 use Rattle.job.specs.Jobs as jobs
-use Rattle.job.specs.Secrecy.{Change, Hidden, Hides, Meet, Secrecy, tapesWith}
+use Rattle.job.specs.Secrecy.{Hidden, Hides, Meet, Secrecy, tapesWith}
 use Rattle.outcome.specs.Same.{Good, Same}
 use Rattle.change.specs.Changes.{Changed, restOf}
 use Rattle.change.proofs.InverseLaw.{change, inverse, unique}
@@ -21,7 +20,7 @@ use Rattle.change.proofs.LeftLaw.{SameLengths}
 use Rattle.change.proofs.LevelLaw.{Level}
 use Rattle.change.proofs.SizeLaw.{hides-kept}
 use Rattle.secrecy.proofs.FollowLaw.{EvenTapes}
-use Rattle.secrecy.proofs.Forward.{Four, forward}
+use Rattle.secrecy.proofs.Forward.{forward}
 
 -- being alike goes both ways
 orders-back : {o o′ : Order} → AlikeOrders o o′ → AlikeOrders o′ o
