@@ -147,7 +147,7 @@ module _ (U : Place) (own far : List ℕ) (h : Hidden) where
         (brought-fits U J m left (accepted-items U own far h e m c doneJ)))
 
   -- the changed tapes are as long as what was left
-  pub lengths-kept : {es fs : List Entry} {m n : Machine} {c d : Place → List ℕ} {out : Hidden}
+  lengths-kept : {es fs : List Entry} {m n : Machine} {c d : Place → List ℕ} {out : Hidden}
       → Changed U own far h es fs m n c d out → AlikeLists es fs → publicOf m ≡ publicOf n → SameLengths out (restOf m h)
   lengths-kept end jobs.done public = record { dealer = refl; lacked = refl }
   lengths-kept (differ a) (jobs.more b tail) public = record { dealer = refl; lacked = refl }
@@ -159,7 +159,7 @@ module _ (U : Place) (own far : List ℕ) (h : Hidden) where
       subst (SameLengths _) (rest-before U own far h e m c doneJ) (same-before items kept)
 
   -- and of 64-bit words
-  pub words-kept : {es fs : List Entry} {m n : Machine} {c d : Place → List ℕ} {out : Hidden}
+  words-kept : {es fs : List Entry} {m n : Machine} {c d : Place → List ℕ} {out : Hidden}
       → Changed U own far h es fs m n c d out → AlikeLists es fs → publicOf m ≡ publicOf n → SmallHidden h → SmallHidden out
   words-kept (end {m = m}) jobs.done public s = rest-small s m
   words-kept (differ {m = m} a) (jobs.more b tail) public s = rest-small s m
