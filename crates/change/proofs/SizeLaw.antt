@@ -29,13 +29,13 @@ use Rattle.change.proofs.ModuliLaw as narrow
 use Rattle.change.proofs.WorkLaw.{AlikeWork, Fitting, brought-fits, decoded-back, fitting-alike, gates-alike, items-alike, segment}
 
 -- a list of 64-bit words
-abbrev pub Small : List ℕ → Type 0
+abbrev Small : List ℕ → Type 0
 Small l = (k : ℕ) → k < length l → getD l k 0 < 2 ^ 64
 
 -- hidden tapes of such words
-pub record SmallHidden (h : Hidden) : Type 0 where
-  pub dealer : Small (h .dealer)
-  pub lacked : Small (h .lacked)
+record SmallHidden (h : Hidden) : Type 0 where
+  dealer : Small (h .dealer)
+  lacked : Small (h .lacked)
 
 small-nil : Small []
 small-nil k h = absurd (omega arith)
