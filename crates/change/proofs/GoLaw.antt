@@ -17,20 +17,23 @@ use Rattle.machine.specs.Work.{Work, adjusts, computes, deals, opens, workOf}
 use Rattle.machine.specs.declared.orders.Order.{Order}
 use Rattle.machine.specs.declared.registers.Machine.{Machine}
 use Rattle.party.specs.Own.{handedOf, receivedOf}
+use Rattle.party.specs.Steps.{gatesIn}
 use Rattle.job.specs.Jobs.{AlikeEntries, Entry, lent, outcome}
 use Rattle.job.specs.Secrecy.{Hidden, tapesWith}
+use Rattle.outcome.specs.Theorems.{itemsOf}
 use Rattle.outcome.proofs.CheckLaw.{accepted}
+use Rattle.outcome.proofs.WorkLaw.{rises}
 use Rattle.change.specs.Changes.{before, decoded, itemsK, leftJ, leftK, nextK, outcomeJ, outcomeK, restOf, workJ, workK}
 use Rattle.change.proofs.LeftLaw.{SameLengths, left-far, left-first, left-lacked, left-own, lengths-beside}
-use Rattle.change.proofs.LevelLaw.{Level, dealer-rises, length-decode, masks-rise, public-level, works-alike}
+use Rattle.change.proofs.LevelLaw.{Level, length-decode, masks-rise, public-level, works-alike}
 use Rattle.change.proofs.OrderLaw.{Lends, accepted-inside, inside-passes, empty-of, lends, refusal-sound, refusalBy}
-use Rattle.change.proofs.WorkLaw.{AgreeOn, AlikeWork, Inside, Partner, agree-around, alike-back, decoded-back, gatesTaken, handed-same, itemsTaken, partner-inside, performed-agree, received-same, segment, take-twice}
+use Rattle.change.proofs.WorkLaw.{AgreeOn, AlikeWork, Inside, Partner, agree-around, alike-back, decoded-back, handed-same, partner-inside, performed-agree, received-same, segment, take-twice}
 use Rattle.change.proofs.PrefixLaw.{Agree}
 use Rattle.change.proofs.WorkLaw as works
 
 -- as many items are decoded as are taken
 pub decoded-dealer : (U : Place) (w : Work) (n : Machine) (t t′ W : List ℕ) (h : Pair)
-    → length (decoded U w n t t′ W h .dealer) ≡ itemsTaken w
+    → length (decoded U w n t t′ W h .dealer) ≡ itemsOf w
 unfolding decoded
 decoded-dealer U (deals d e v) n t t′ W h = refl
 decoded-dealer U (adjusts C d x y kind) n t t′ W h = refl
@@ -38,7 +41,7 @@ decoded-dealer U (computes C d x y kind) n t t′ W h = refl
 decoded-dealer U (opens x) n t t′ W h = refl
 
 pub decoded-lacked : (U : Place) (w : Work) (n : Machine) (left : Tapes) → Inside w left → (t t′ W : List ℕ) (h : Pair)
-    → length (decoded U w n t t′ W h .lacked) ≡ gatesTaken w
+    → length (decoded U w n t t′ W h .lacked) ≡ gatesIn w
 unfolding decoded
 decoded-lacked U (deals d e v) n left inside t t′ W h = refl
 decoded-lacked U (adjusts C d x y kind) n left inside t t′ W h = ap length (sym inside)
@@ -52,14 +55,14 @@ inside-alike left works.number inside = inside
 
 -- nothing is taken, or it is lent
 dealer-lent : (w : Work) (p : Public) (len : Lengths) → Lends w p len
-    → (itemsTaken w ≡ 0) ⊎ (p .dealerAt + itemsTaken w ≤ len .dealer)
+    → (itemsOf w ≡ 0) ⊎ (p .dealerAt + itemsOf w ≤ len .dealer)
 dealer-lent (deals d e v) p len lend = inr lend
 dealer-lent (adjusts C d x y kind) p len lend = inl refl
 dealer-lent (computes C d x y kind) p len lend = inl refl
 dealer-lent (opens x) p len lend = inl refl
 
 masks-lent : (w : Work) (p : Public) (len : Lengths) (i : Place) → Lends w p len
-    → (gatesTaken w ≡ 0) ⊎ (p .masksAt + gatesTaken w ≤ len .masks i)
+    → (gatesIn w ≡ 0) ⊎ (p .masksAt + gatesIn w ≤ len .masks i)
 masks-lent (deals d e v) p len i lend = inl refl
 masks-lent (adjusts C d x y kind) p len i lend = inl (ap length lend)
 masks-lent (computes C d x y kind) p len i lend = inr (lend i)
@@ -116,11 +119,11 @@ agrees : (U : Place) (w : Work) (left′ : Tapes) (t t′ : List ℕ) (items : H
     → AgreeOn w left′ (tapesWith U t t′ items)
 agrees U w left′ t t′ items own far seg =
     record {
-      masks = subst (λ (a : List ℕ). Agree (gatesTaken w) (left′ .masks) (around U a t′ (items .lacked))) own
-          (subst (λ (b : List ℕ). Agree (gatesTaken w) (left′ .masks) (around U (left′ .masks U) b (items .lacked))) far
-          (agree-around (gatesTaken w) U (left′ .masks) (items .lacked)
-          (take-twice (gatesTaken w) (left′ .masks (lackedBy U)) ∙ ap (λ (s : Hidden). take (gatesTaken w) (s .lacked)) seg)));
-      dealer = take-twice (itemsTaken w) (left′ .dealer) ∙ ap (λ (s : Hidden). take (itemsTaken w) (s .dealer)) seg;
+      masks = subst (λ (a : List ℕ). Agree (gatesIn w) (left′ .masks) (around U a t′ (items .lacked))) own
+          (subst (λ (b : List ℕ). Agree (gatesIn w) (left′ .masks) (around U (left′ .masks U) b (items .lacked))) far
+          (agree-around (gatesIn w) U (left′ .masks) (items .lacked)
+          (take-twice (gatesIn w) (left′ .masks (lackedBy U)) ∙ ap (λ (s : Hidden). take (gatesIn w) (s .lacked)) seg)));
+      dealer = take-twice (itemsOf w) (left′ .dealer) ∙ ap (λ (s : Hidden). take (itemsOf w) (s .dealer)) seg;
     }
 
 -- what K's order brings U gives back J's hidden items
@@ -174,7 +177,7 @@ module _ (U : Place) (own far : List ℕ) (h : Hidden) (e : Entry) (m : Machine)
   accepted-items = accepted-inside (accepted (e .order) m (lent e (tapesWith U own far h)) c doneJ)
 
   -- and this is what it does
-  pub doneJ-is : outcome e m (tapesWith U own far h) c ≡ performed workAt m leftAt c
+  doneJ-is : outcome e m (tapesWith U own far h) c ≡ performed workAt m leftAt c
   doneJ-is = accepted (e .order) m (lent e (tapesWith U own far h)) c doneJ .done
 
   -- the hidden items that it takes and what is left after them are what was left before
@@ -183,12 +186,12 @@ module _ (U : Place) (own far : List ℕ) (h : Hidden) (e : Entry) (m : Machine)
       let lend = lends (accepted (e .order) m (lent e (tapesWith U own far h)) c doneJ) in
       let p = publicOf m in
       hidden-equal
-      (joined-at (itemsTaken workAt) (m .«dealer_at») (e .dealerLent) (h .dealer)
-      (ap (λ (o : Outcome). o .machine .«dealer_at») doneJ-is ∙ dealer-rises workAt m leftAt c)
+      (joined-at (itemsOf workAt) (m .«dealer_at») (e .dealerLent) (h .dealer)
+      (ap (λ (o : Outcome). o .machine .«dealer_at») doneJ-is ∙ rises m leftAt c workAt .2)
       (dealer-lent workAt p _ lend))
-      (ap (λ (l : List ℕ). take (gatesTaken workAt) l ++ drop (outcome e m (tapesWith U own far h) c .machine .«masks_at») (h .lacked))
+      (ap (λ (l : List ℕ). take (gatesIn workAt) l ++ drop (outcome e m (tapesWith U own far h) c .machine .«masks_at») (h .lacked))
       (left-lacked U own far p e h)
-      ∙ joined-at (gatesTaken workAt) (m .«masks_at») (e .masksLent (lackedBy U)) (h .lacked)
+      ∙ joined-at (gatesIn workAt) (m .«masks_at») (e .masksLent (lackedBy U)) (h .lacked)
       (ap (λ (o : Outcome). o .machine .«masks_at») doneJ-is ∙ masks-rise workAt m leftAt c)
       (rw (lacked-length U own far e h c) at (masks-lent workAt p _ (lackedBy U) lend)))
 
@@ -213,16 +216,16 @@ module _ (U : Place) (own far : List ℕ) (h k : Hidden) (lens : SameLengths h k
   abbrev K : Work
   K = workK U own far h e f m n c d
 
-  abbrev pub left : Tapes
+  abbrev left : Tapes
   left = leftJ U own far h e f m n c d
 
   abbrev items : Hidden
   items = itemsK U own far h e f m n c d
 
-  abbrev pub left′ : Tapes
+  abbrev left′ : Tapes
   left′ = leftOf (publicOf n) (lent f (tapesWith U own far k))
 
-  pub alike-works : AlikeWork J K
+  alike-works : AlikeWork J K
   alike-works = works-alike (alike .order) (level .public)
 
   pub inside : Inside J left
@@ -243,10 +246,10 @@ module _ (U : Place) (own far : List ℕ) (h k : Hidden) (lens : SameLengths h k
       let W = receivedOf U J m left in
       let pr = handedOf U J left in
       hidden-equal
-      (taken-are (itemsTaken K) (n .«dealer_at») (f .dealerLent) (k .dealer) (items .dealer) (out .dealer)
+      (taken-are (itemsOf K) (n .«dealer_at») (f .dealerLent) (k .dealer) (items .dealer) (out .dealer)
       (dealer-lent K (publicOf n) _ lend) (ap (λ (s : Hidden). s .dealer) rest) (decoded-dealer U K n t t′ W pr))
-      (ap (take (gatesTaken K)) (left-lacked U own far (publicOf n) f k)
-      ∙ taken-are (gatesTaken K) (n .«masks_at») (f .masksLent (lackedBy U)) (k .lacked) (items .lacked) (out .lacked)
+      (ap (take (gatesIn K)) (left-lacked U own far (publicOf n) f k)
+      ∙ taken-are (gatesIn K) (n .«masks_at») (f .masksLent (lackedBy U)) (k .lacked) (items .lacked) (out .lacked)
       (rw (lacked-length U own far f k d) at (masks-lent K (publicOf n) _ (lackedBy U) lend))
       (ap (λ (s : Hidden). s .lacked) rest)
       (decoded-lacked U K n left (inside-alike left alike-works inside) t t′ W pr))
@@ -311,7 +314,7 @@ module _ (U : Place) (own far : List ℕ) (h k : Hidden) (lens : SameLengths h k
       let pr = handedOf U J left in
       let L = leftK U own far h e f m n c d in
       hidden-equal
-      (beyond (itemsTaken K) (n .«dealer_at») (k .dealer) (items .dealer) (out .dealer) (dealer-rises K n L d)
+      (beyond (itemsOf K) (n .«dealer_at») (k .dealer) (items .dealer) (out .dealer) (rises n L d K .2)
       (ap (λ (s : Hidden). s .dealer) rest) (decoded-dealer U K n t t′ W pr))
-      (beyond (gatesTaken K) (n .«masks_at») (k .lacked) (items .lacked) (out .lacked) (masks-rise K n L d)
+      (beyond (gatesIn K) (n .«masks_at») (k .lacked) (items .lacked) (out .lacked) (masks-rise K n L d)
       (ap (λ (s : Hidden). s .lacked) rest) (decoded-lacked U K n left (inside-alike left alike-works inside) t t′ W pr))

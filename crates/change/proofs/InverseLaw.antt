@@ -19,7 +19,6 @@ use Rattle.outcome.proofs.Theorems.{channels-stand, keeps-sound}
 use Rattle.change.specs.Changes.{Changed, before, differ, end, go, item, itemsK, nextK, outcomeJ, outcomeK, restOf, skip}
 use Rattle.change.proofs.GoLaw.{doneJ′, doneK′, items-back, nextJ-is, nextK-is, public-kept, rest-after, rest-before}
 use Rattle.change.proofs.LeftLaw.{SameLengths, left-same-rest, lengths-beside}
-pub use Rattle.change.proofs.LeftLaw.{same-entry}
 use Rattle.change.proofs.LevelLaw.{Level}
 use Rattle.change.proofs.OrderLaw.{refusal-sound, refusalBy}
 
@@ -28,7 +27,7 @@ module _ (U : Place) (own far : List ℕ) where
   refusalOn x e m c = outcome e m (tapesWith U own far x) c .refusal
 
   -- tapes with the same left are refused the same
-  pub same-refusal : (h k : Hidden) → SameLengths h k → (e : Entry) (m : Machine) (c : Place → List ℕ)
+  same-refusal : (h k : Hidden) → SameLengths h k → (e : Entry) (m : Machine) (c : Place → List ℕ)
       → sound m ≡ true → restOf m h ≡ restOf m k
       → refusalOn h e m c ≡ refusalOn k e m c
   same-refusal h k lens e m c s rest =
@@ -62,14 +61,14 @@ module _ (U : Place) (own far : List ℕ) where
       ∙ sym (refusal-sound (e .order) m T′ c s)
 
   -- positions on a level leave the same
-  pub rest-level : (m n : Machine) (x : Hidden) → publicOf m ≡ publicOf n → restOf m x ≡ restOf n x
+  rest-level : (m n : Machine) (x : Hidden) → publicOf m ≡ publicOf n → restOf m x ≡ restOf n x
   rest-level m n x e = ap (λ (p : Public). rest-at p) e
     where
       rest-at : Public → Hidden
       rest-at p = record { dealer = drop (p .dealerAt) (x .dealer); lacked = drop (p .masksAt) (x .lacked) }
 
   -- records stay on a level
-  pub level-after : (h k : Hidden) (lens : SameLengths h k) (e f : Entry) (alike : AlikeEntries e f)
+  level-after : (h k : Hidden) (lens : SameLengths h k) (e f : Entry) (alike : AlikeEntries e f)
       (m n : Machine) (c d : Place → List ℕ)
       (level : Level m n c d)
       (doneJ : outcomeJ U own far h e f m n c d .refusal ≡ 0) (doneK : outcomeK U own far h e f m n c d .refusal ≡ 0)

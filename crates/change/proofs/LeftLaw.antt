@@ -9,6 +9,7 @@ use lib.Seq.{take-nil, take-take}
 use Rattle.gate.specs.Places.{Place, next, p0, p1, p2, tabled}
 use Rattle.gate.proofs.PlaceLaw.{each}
 use Rattle.view.specs.Views.{around, lackedBy}
+use Rattle.view.proofs.AroundLaw.{each-around}
 use Rattle.machine.specs.Checks.{Lengths, Tapes, leftOf}
 use Rattle.machine.specs.Registers.{Public, publicOf}
 use Rattle.machine.specs.Step.{lengthsOf}
@@ -17,7 +18,6 @@ use Rattle.job.specs.Jobs.{AlikeEntries, Entry, lent}
 use Rattle.job.specs.Jobs as jobs
 use Rattle.job.specs.Secrecy.{Hidden, tapesWith}
 use Rattle.change.specs.Changes.{restOf}
-use Rattle.change.proofs.AroundLaw.{each-around}
 
 -- the items from a on of the first n are the first n - a of those from a on
 drop-take : (a n : ℕ) (l : List ℕ) → drop a (take n l) ≡ take (n - a) (drop a l)
@@ -27,7 +27,7 @@ drop-take (suc a) (suc n) [] = sym (take-nil (suc n - suc a))
 drop-take (suc a) (suc n) (x ∷ l) = drop-take a n l ∙ ap (λ (k : ℕ). take k (drop a l)) (sym (suc-sub-suc n a))
 
 -- so they go by what is left
-pub left-same : (a n : ℕ) (l l′ : List ℕ) → drop a l ≡ drop a l′ → drop a (take n l) ≡ drop a (take n l′)
+left-same : (a n : ℕ) (l l′ : List ℕ) → drop a l ≡ drop a l′ → drop a (take n l) ≡ drop a (take n l′)
 left-same a n l l′ e = drop-take a n l ∙ ap (take (n - a)) e ∙ sym (drop-take a n l′)
 
 -- and the first g of them, where the order is lent so many, are the first g left
@@ -56,6 +56,24 @@ tapes-equal p q = rw (p, q)
 pub same-entry : (e : Entry) → AlikeEntries e e
 same-entry e = record { order = jobs.same; masksLent = refl; dealerLent = refl }
 
+-- tapes of the same lengths
+pub record EvenTapes (T T′ : Tapes) : Type 0 where
+  pub masks : (i : Place) → length (T .masks i) ≡ length (T′ .masks i)
+  pub dealer : length (T .dealer) ≡ length (T′ .dealer)
+
+-- alike orders are lent as much of them
+pub even-lengths : {e f : Entry} → AlikeEntries e f → (T T′ : Tapes) → EvenTapes T T′
+    → (c d : Place → List ℕ) → ((i : Place) → length (c i) ≡ length (d i))
+    → lengthsOf (lent e T) c ≡ lengthsOf (lent f T′) d
+even-lengths {e} {f} alike T T′ even c d channels =
+    lengths-equal
+    (ap tabled (fun-ext (λ i.
+    ap (λ (n : Place → ℕ). length (take (n i) (T .masks i))) (alike .masksLent)
+    ∙ length-taken (f .masksLent i) (T .masks i) (T′ .masks i) (even .masks i))))
+    (ap (λ (n : ℕ). length (take n (T .dealer))) (alike .dealerLent)
+    ∙ length-taken (f .dealerLent) (T .dealer) (T′ .dealer) (even .dealer))
+    (ap tabled (fun-ext channels))
+
 module _ (U : Place) (own far : List ℕ) where
   -- U's own tapes are the same beside any hidden ones
   tape-length : (h k : Hidden) → SameLengths h k → (i : Place)
@@ -67,26 +85,12 @@ module _ (U : Place) (own far : List ℕ) where
       at p1 = each (λ i. length (around p1 own far (h .lacked) i) ≡ length (around p1 own far (k .lacked) i)) (s .lacked) refl refl
       at p2 = each (λ i. length (around p2 own far (h .lacked) i) ≡ length (around p2 own far (k .lacked) i)) refl (s .lacked) refl
 
-  -- lengths are public
-  pub lengths-same : {e f : Entry} → AlikeEntries e f → (h k : Hidden) → SameLengths h k
-      → (c d : Place → List ℕ) → ((i : Place) → length (c i) ≡ length (d i))
-      → lengthsOf (lent e (tapesWith U own far h)) c ≡ lengthsOf (lent f (tapesWith U own far k)) d
-  lengths-same {e} {f} alike h k s c d channels =
-      let masks : (i : Place)
-      → length (take (e .masksLent i) (tapesWith U own far h .masks i)) ≡ length (take (f .masksLent i) (tapesWith U own far k .masks i))
-      = λ i.
-      ap (λ (n : Place → ℕ). length (take (n i) (tapesWith U own far h .masks i))) (alike .masksLent)
-      ∙ length-taken (f .masksLent i) (tapesWith U own far h .masks i) (tapesWith U own far k .masks i) (tape-length h k s i) in
-      let dealer : length (take (e .dealerLent) (h .dealer)) ≡ length (take (f .dealerLent) (k .dealer))
-      = ap (λ (n : ℕ). length (take n (h .dealer))) (alike .dealerLent)
-      ∙ length-taken (f .dealerLent) (h .dealer) (k .dealer) (s .dealer) in
-      lengths-equal (ap tabled (fun-ext masks)) dealer (ap tabled (fun-ext channels))
-
-  -- of one order too
+  -- so an order is lent as much beside any of the same lengths
   pub lengths-beside : (e : Entry) (h k : Hidden) → SameLengths h k → (c : Place → List ℕ)
       → lengthsOf (lent e (tapesWith U own far h)) c ≡ lengthsOf (lent e (tapesWith U own far k)) c
   lengths-beside e h k s c =
-      lengths-same (same-entry e) h k s c c (λ i. refl)
+      even-lengths (same-entry e) (tapesWith U own far h) (tapesWith U own far k) (record { masks = tape-length h k s; dealer = s .dealer })
+      c c (λ i. refl)
 
   -- U's own tapes are left as they are beside any hidden ones
   pub left-own : (p : Public) (e : Entry) (h k : Hidden)

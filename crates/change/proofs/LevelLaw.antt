@@ -8,15 +8,16 @@ use Rattle.gate.specs.Places.{Place}
 use Rattle.circuit.specs.Circuits.{Gate}
 use Rattle.view.specs.Views.{decode}
 use Rattle.machine.specs.Checks.{Tapes}
-use Rattle.machine.specs.Registers.{Public, publicOf, sound, withRegister}
-use Rattle.machine.specs.Step.{computed, dealt, opened, performed}
-use Rattle.machine.specs.Work.{Work, adjusts, computes, deals, opens, workOf}
+use Rattle.machine.specs.Registers.{Public, publicOf, sound}
+use Rattle.machine.specs.Step.{performed}
+use Rattle.machine.specs.Work.{Work, workOf}
 use Rattle.machine.specs.declared.orders.Order.{Order}
 use Rattle.machine.specs.declared.registers.Machine.{Machine}
+use Rattle.party.specs.Steps.{gatesIn}
 use Rattle.job.specs.Jobs.{AlikeOrders}
 use Rattle.job.specs.Jobs as jobs
-use Rattle.outcome.proofs.WorkLaw.{public-after, publicBy, rises}
-use Rattle.change.proofs.WorkLaw.{AlikeWork, gatesTaken, itemsTaken}
+use Rattle.outcome.proofs.WorkLaw.{gates-are, public-after, publicBy, rises}
+use Rattle.change.proofs.WorkLaw.{AlikeWork}
 use Rattle.change.proofs.WorkLaw as works
 
 -- both sound, with channels of the same lengths
@@ -49,18 +50,10 @@ public-level {w} {w′} alike m n left left′ c d e =
     ∙ ap (publicBy w′) e
     ∙ sym (public-after n left′ d w′)
 
--- the positions rise by what is taken
+-- the position on the mask tapes rises by what is taken
 pub masks-rise : (w : Work) (m : Machine) (left : Tapes) (c : Place → List ℕ)
-    → performed w m left c .machine .«masks_at» ≡ m .«masks_at» + gatesTaken w
-unfolding computed dealt opened withRegister
-masks-rise (deals d e v) m left c = refl
-masks-rise (adjusts C d x y kind) m left c = refl
-masks-rise (computes C d x y kind) m left c = refl
-masks-rise (opens x) m left c = refl
-
-pub dealer-rises : (w : Work) (m : Machine) (left : Tapes) (c : Place → List ℕ)
-    → performed w m left c .machine .«dealer_at» ≡ m .«dealer_at» + itemsTaken w
-dealer-rises w m left c = rises m left c w .2
+    → performed w m left c .machine .«masks_at» ≡ m .«masks_at» + gatesIn w
+masks-rise w m left c = rises m left c w .0 ∙ ap (λ (n : ℕ). m .«masks_at» + n) (gates-are m left c w)
 
 -- as many items are decoded as are taken
 pub length-decode : {S : Type 0} (U : Place) (G : List (Gate S)) (s : Place → S) (t t′ W : List ℕ)

@@ -1,4 +1,3 @@
-pub mod AroundLaw
 pub mod DealLaw
 pub mod GoLaw
 pub mod InverseLaw

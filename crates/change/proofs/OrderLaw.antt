@@ -18,9 +18,8 @@ use Rattle.machine.specs.Registers.{Public, publicOf, sound}
 use Rattle.machine.specs.Step.{checks, lengthsOf, step}
 use Rattle.machine.specs.Work.{Work, adjusts, computes, deals, opens, workOf}
 use Rattle.machine.specs.declared.orders.Order.{Order}
-use Rattle.machine.specs.declared.orders.Order.the-variants.{Add, Compose, Convert, Deal, Decompose, Multiply, Open, Scale, Shift}
 use Rattle.machine.specs.declared.registers.Machine.{Machine}
-use Rattle.outcome.proofs.CheckLaw.{Accepted, Passed, neither, refusal-is}
+use Rattle.outcome.proofs.CheckLaw.{Accepted, Passed, neither, numbered, numbered-checks, refusal-is}
 use Rattle.outcome.proofs.WorkLaw.{Light, even, light}
 use Rattle.change.proofs.WorkLaw.{Inside}
 
@@ -29,38 +28,24 @@ abbrev pub refusalBy : ℕ → Bool → ℕ
 refusalBy zero b = cond b 10 0
 refusalBy (suc r) b = suc r
 
--- every public refusal has a number
-abbrev numbers : List Check → Bool
-numbers [] = true
-numbers (c ∷ cs) = ltb 0 (c .refusal) && numbers cs
-
-public-numbers : (o : Order) (p : Public) (len : Lengths) → numbers (publicChecks o p len) ≡ true
-unfolding publicChecks
-public-numbers (Deal d e v) p len = refl
-public-numbers (Add d x y) p len = refl
-public-numbers (Scale d x k) p len = refl
-public-numbers (Multiply d x y) p len = refl
-public-numbers (Decompose d x l) p len = refl
-public-numbers (Convert d x f) p len = refl
-public-numbers (Shift d x s) p len = refl
-public-numbers (Compose d x f) p len = refl
-public-numbers (Open x) p len = refl
-
--- one more check, that of an item, after checks that all have numbers
-first-with : (cs : List Check) (b : Bool) → numbers cs ≡ true → firstMet (cs ++ (check b 10 ∷ [])) ≡ refusalBy (firstMet cs) b
+-- the last of checks that all have numbers is that of an item
+first-with : (cs : List Check) (b : Bool) → numbered (cs ++ (check b 10 ∷ [])) ≡ true
+    → firstMet (cs ++ (check b 10 ∷ [])) ≡ refusalBy (firstMet cs) b
 unfolding firstMet
 first-with [] b n = refl
 first-with (c ∷ cs) b n = go (c .met) (c .refusal) n (first-with cs b)
   where
+    all : List Check
+    all = cs ++ (check b 10 ∷ [])
+
     by : (r : ℕ) → ltb 0 r ≡ true → r ≡ refusalBy r b
     by zero h = absurd (false≢true h)
     by (suc r) h = refl
 
-    go : (met : Bool) (r : ℕ) → ltb 0 r && numbers cs ≡ true
-        → (numbers cs ≡ true → firstMet (cs ++ (check b 10 ∷ [])) ≡ refusalBy (firstMet cs) b)
-        → cond met r (firstMet (cs ++ (check b 10 ∷ []))) ≡ refusalBy (cond met r (firstMet cs)) b
-    go true r h ih = by r (and-eq-true-iff (ltb 0 r) (numbers cs) .0 h .0)
-    go false r h ih = ih (and-eq-true-iff (ltb 0 r) (numbers cs) .0 h .1)
+    go : (met : Bool) (r : ℕ) → ltb 0 r && numbered all ≡ true → (numbered all ≡ true → firstMet all ≡ refusalBy (firstMet cs) b)
+        → cond met r (firstMet all) ≡ refusalBy (cond met r (firstMet cs)) b
+    go true r h ih = by r (and-eq-true-iff (ltb 0 r) (numbered all) .0 h .0)
+    go false r h ih = ih (and-eq-true-iff (ltb 0 r) (numbered all) .0 h .1)
 
 -- the refusal of an order at a sound record
 pub refusal-sound : (o : Order) (m : Machine) (T : Tapes) (c : Place → List ℕ) → sound m ≡ true
@@ -72,7 +57,7 @@ refusal-sound o m T c h =
     let bad = badItem (workOf o p) (leftOf p T) in
     refusal-is o m T c
     ∙ ap (λ (b : Bool). cond (not b) 1 (firstMet (publicChecks o p (lengthsOf T c) ++ (check bad 10 ∷ [])))) h
-    ∙ first-with (publicChecks o p (lengthsOf T c)) bad (public-numbers o p (lengthsOf T c))
+    ∙ first-with (publicChecks o p (lengthsOf T c)) bad (numbered-checks o m T c)
 
 -- enough is lent for what the order takes
 abbrev pub Lends : Work → Public → Lengths → Type 0

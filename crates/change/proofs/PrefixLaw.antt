@@ -34,7 +34,7 @@ tails-agree n T T′ a i =
     rw (tabled-is (λ j. drop 1 (T j)), tabled-is (λ j. drop 1 (T′ j))) (rest-of-take n (T i) (T′ i) (a i))
 
 module _ {S : Type 0} where
-  pub ends-prefix : (G : List (Gate S)) (s : Place → S) (T T′ : Place → List ℕ) → Agree (length G) T T′
+  ends-prefix : (G : List (Gate S)) (s : Place → S) (T T′ : Place → List ℕ) → Agree (length G) T T′
       → ends G s T ≡ ends G s T′
   unfolding ends
   ends-prefix [] s T T′ a = refl

@@ -29,13 +29,13 @@ use Rattle.change.proofs.ModuliLaw as narrow
 use Rattle.change.proofs.WorkLaw.{AlikeWork, Fitting, brought-fits, decoded-back, fitting-alike, gates-alike, items-alike, segment}
 
 -- a list of 64-bit words
-abbrev pub Small : List ℕ → Type 0
+abbrev Small : List ℕ → Type 0
 Small l = (k : ℕ) → k < length l → getD l k 0 < 2 ^ 64
 
 -- hidden tapes of such words
-pub record SmallHidden (h : Hidden) : Type 0 where
-  pub dealer : Small (h .dealer)
-  pub lacked : Small (h .lacked)
+record SmallHidden (h : Hidden) : Type 0 where
+  dealer : Small (h .dealer)
+  lacked : Small (h .lacked)
 
 small-nil : Small []
 small-nil k h = absurd (omega arith)
@@ -147,7 +147,7 @@ module _ (U : Place) (own far : List ℕ) (h : Hidden) where
         (brought-fits U J m left (accepted-items U own far h e m c doneJ)))
 
   -- the changed tapes are as long as what was left
-  pub lengths-kept : {es fs : List Entry} {m n : Machine} {c d : Place → List ℕ} {out : Hidden}
+  lengths-kept : {es fs : List Entry} {m n : Machine} {c d : Place → List ℕ} {out : Hidden}
       → Changed U own far h es fs m n c d out → AlikeLists es fs → publicOf m ≡ publicOf n → SameLengths out (restOf m h)
   lengths-kept end jobs.done public = record { dealer = refl; lacked = refl }
   lengths-kept (differ a) (jobs.more b tail) public = record { dealer = refl; lacked = refl }
@@ -159,7 +159,7 @@ module _ (U : Place) (own far : List ℕ) (h : Hidden) where
       subst (SameLengths _) (rest-before U own far h e m c doneJ) (same-before items kept)
 
   -- and of 64-bit words
-  pub words-kept : {es fs : List Entry} {m n : Machine} {c d : Place → List ℕ} {out : Hidden}
+  words-kept : {es fs : List Entry} {m n : Machine} {c d : Place → List ℕ} {out : Hidden}
       → Changed U own far h es fs m n c d out → AlikeLists es fs → publicOf m ≡ publicOf n → SmallHidden h → SmallHidden out
   words-kept (end {m = m}) jobs.done public s = rest-small s m
   words-kept (differ {m = m} a) (jobs.more b tail) public s = rest-small s m

@@ -11,6 +11,7 @@ use Rattle.gate.specs.Places.{Pair, Place, next, p0, p1, p2, parts, sharing, ta
 use Rattle.gate.proofs.PlaceLaw.{each}
 use Rattle.circuit.specs.Circuits.{Circuit, channelled, gatesOf, moduli, result, sent, starts}
 use Rattle.view.specs.Views.{Fits, around, decode, encode, lackedBy}
+use Rattle.view.proofs.AroundLaw.{each-around}
 use Rattle.view.proofs.Theorems.{items-fit-gates, items-of-words, words-fit-gates, words-of-items}
 use Rattle.machine.specs.Checks.{Tapes}
 use Rattle.machine.specs.Registers.{Kind, registerAt, registerOf, sharesOf, withRegister}
@@ -18,29 +19,17 @@ use Rattle.machine.specs.Step.{Outcome, computed, dealt, moved, opened, perform
 use Rattle.machine.specs.Work.{Work, adjusts, computes, deals, opens}
 use Rattle.machine.specs.declared.registers.Machine.{Machine}
 use Rattle.party.specs.Own.{handedOf, receivedOf}
+use Rattle.party.specs.Steps.{gatesIn}
 use Rattle.job.specs.Secrecy.{Hidden}
+use Rattle.outcome.specs.Theorems.{itemsOf}
 use Rattle.change.specs.Changes.{decoded, dealtAround}
-use Rattle.change.proofs.AroundLaw.{each-around}
 use Rattle.change.proofs.DealLaw.{items-back, items-below, pair-back, pair-below}
 use Rattle.change.proofs.PrefixLaw.{Agree, channelled-prefix, result-prefix, sent-prefix}
 
--- how many items of each mask tape and of the dealer's tape an order takes
-abbrev pub gatesTaken : Work → ℕ
-gatesTaken (deals d e v) = 0
-gatesTaken (adjusts C d x y kind) = gatesOf C
-gatesTaken (computes C d x y kind) = gatesOf C
-gatesTaken (opens x) = 0
-
-abbrev pub itemsTaken : Work → ℕ
-itemsTaken (deals d e v) = 2
-itemsTaken (adjusts C d x y kind) = 0
-itemsTaken (computes C d x y kind) = 0
-itemsTaken (opens x) = 0
-
 -- two sets of tapes that agree in what an order takes
 pub record AgreeOn (w : Work) (left left′ : Tapes) : Type 0 where
-  pub masks : Agree (gatesTaken w) (left .masks) (left′ .masks)
-  pub dealer : take (itemsTaken w) (left .dealer) ≡ take (itemsTaken w) (left′ .dealer)
+  pub masks : Agree (gatesIn w) (left .masks) (left′ .masks)
+  pub dealer : take (itemsOf w) (left .dealer) ≡ take (itemsOf w) (left′ .dealer)
 
 first-two : (t v : List ℕ) → take 2 t ≡ take 2 v → (getD t 0 0 ≡ getD v 0 0) × (getD t 1 0 ≡ getD v 1 0)
 first-two t v e = (
@@ -100,7 +89,7 @@ Inside (opens x) left = Unit {0}
 -- what U does not see of the items that an order takes
 abbrev pub segment : Place → Work → Tapes → Hidden
 segment U w left =
-    record { dealer = take (itemsTaken w) (left .dealer); lacked = take (gatesTaken w) (left .masks (lackedBy U)) }
+    record { dealer = take (itemsOf w) (left .dealer); lacked = take (gatesIn w) (left .masks (lackedBy U)) }
 
 -- tapes that differ in the lacked one alone, beyond the items taken
 pub agree-around : (n : ℕ) (U : Place) (T : Place → List ℕ) (M : List ℕ) → take n (T (lackedBy U)) ≡ take n M
@@ -186,11 +175,11 @@ alike-back same = same
 alike-back number = number
 
 -- what an order takes does not go by the number dealt
-pub gates-alike : {w w′ : Work} → AlikeWork w w′ → gatesTaken w ≡ gatesTaken w′
+pub gates-alike : {w w′ : Work} → AlikeWork w w′ → gatesIn w ≡ gatesIn w′
 gates-alike same = refl
 gates-alike number = refl
 
-pub items-alike : {w w′ : Work} → AlikeWork w w′ → itemsTaken w ≡ itemsTaken w′
+pub items-alike : {w w′ : Work} → AlikeWork w w′ → itemsOf w ≡ itemsOf w′
 items-alike same = refl
 items-alike number = refl
 
@@ -270,7 +259,7 @@ partner-inside U (computes C d x y kind) w′ m n left left′ same inside partn
 partner-inside U (opens x) w′ m n left left′ same inside partner = tt
 
 -- an opening's word is the register's, and no item's
-abbrev pub NoOpening : Work → Type 0
+abbrev NoOpening : Work → Type 0
 NoOpening (deals d e v) = Unit {0}
 NoOpening (adjusts C d x y kind) = Unit {0}
 NoOpening (computes C d x y kind) = Unit {0}

@@ -78,16 +78,16 @@ pub run : IsRun J T
 unfolding course-open allWords
 run = record { masks = masks-long; dealer = words-of (T .dealer) refl }
 
-pub run′ : IsRun K T′
+run′ : IsRun K T′
 unfolding course-open allWords
 run′ = record { masks = masks-long′; dealer = words-of (T′ .dealer) refl }
 
 -- both runs are fair, and open the same
-pub fair : Fair J T
+fair : Fair J T
 unfolding course-open fairly
 fair = fair-of (J .entries) emptyMachine (J .channels) T refl
 
-pub fair′ : Fair K T′
+fair′ : Fair K T′
 unfolding course-open fairly
 fair′ = fair-of (K .entries) emptyMachine (K .channels) T′ refl
 
@@ -95,7 +95,7 @@ pub opens-these : opens J T ≡ 12 ∷ 1 ∷ []
 unfolding course-open
 opens-these = refl
 
-pub opens-same : opens J T ≡ opens K T′
+opens-same : opens J T ≡ opens K T′
 unfolding course-open
 opens-same = refl
 
@@ -106,7 +106,7 @@ meet = record { runJ = run; runK = run′; fairJ = fair; fairK = fair′; opened
 unfoldable pub applies : (U : Place) → Change J K U (own U) (far U)
 applies U = secrecy J K alike U (own U) (far U) (run .masks U) (run .masks (next U))
 
-pub hides : (U : Place) → Hides J U (hidden U)
+hides : (U : Place) → Hides J U (hidden U)
 hides U = record { dealer = run .dealer; lacked = run .masks (lackedBy U) }
 
 pub sees-same : (U : Place) → views U J T ≡ views U K (withHidden U (applies U .to (hidden U)))

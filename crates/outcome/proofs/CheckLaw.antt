@@ -30,7 +30,7 @@ passed-append [] b h = (tt, h)
 passed-append (c ∷ cs) b h = let rest = passed-append cs b (h .1) in ((h .0, rest .0), rest .1)
 
 -- every refusal has a number, and it is not 0
-abbrev numbered : List Check → Bool
+abbrev pub numbered : List Check → Bool
 numbered [] = true
 numbered (c ∷ cs) = ltb 0 (c .refusal) && numbered cs
 
@@ -69,7 +69,7 @@ performed-refusal (adjusts C d x y kind) m left c = refl
 performed-refusal (computes C d x y kind) m left c = refl
 performed-refusal (opens x) m left c = refl
 
-numbered-checks : (o : Order) (m : Machine) (T : Tapes) (c : Place → List ℕ) → numbered (checks o m T c) ≡ true
+pub numbered-checks : (o : Order) (m : Machine) (T : Tapes) (c : Place → List ℕ) → numbered (checks o m T c) ≡ true
 unfolding checks publicChecks
 numbered-checks (Deal d e v) m T c = refl
 numbered-checks (Add d x y) m T c = refl

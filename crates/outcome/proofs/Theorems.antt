@@ -49,7 +49,7 @@ number-apart false false true y rest h p = absurd (p refl)
 number-apart false false false y rest h p = rw (h refl)
 
 -- a deal not refused for its number: 0 in its place is below p too, wherever 5 does not refuse
-number-aside : (o : Order) (p : Public) (len : Lengths) → (RefusedNumber o (firstMet (publicChecks o p len)) → ⊥)
+pub number-aside : (o : Order) (p : Public) (len : Lengths) → (RefusedNumber o (firstMet (publicChecks o p len)) → ⊥)
     → firstMet (publicChecks o p len) ≡ firstMet (publicChecks (withoutNumber o) p len)
 unfolding publicChecks firstMet
 number-aside (Deal d e v) p len h =

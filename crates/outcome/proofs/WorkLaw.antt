@@ -27,7 +27,7 @@ use Rattle.outcome.proofs.CheckLaw.{Passed, neither}
 use Rattle.outcome.proofs.RegisterLaw.{Fits, Sound, parts-sound, register-other, register-same, sharesAt, sound-with, value-as, valueAs}
 
 -- the register that it writes: 16 where it writes none
-abbrev pub target : Work → ℕ
+abbrev target : Work → ℕ
 target (deals d e v) = d
 target (adjusts C d x y kind) = d
 target (computes C d x y kind) = d
@@ -45,10 +45,10 @@ target-is (Compose d x f) p = refl
 target-is (Open x) p = refl
 
 -- the sub-shares that it leaves there, of a deal and of a circuit; and that they are in range
-abbrev pub dealtBy : (e v : ℕ) → Tapes → Place → ℕ
+abbrev dealtBy : (e v : ℕ) → Tapes → Place → ℕ
 dealtBy e v left = parts (dealtShares (modulus e) v (getD (left .dealer) 0 0) (getD (left .dealer) 1 0))
 
-abbrev pub leftBy : (C : Circuit) → (x y : ℕ) → Machine → Tapes → Place → ℕ
+abbrev leftBy : (C : Circuit) → (x y : ℕ) → Machine → Tapes → Place → ℕ
 leftBy C x y m left = result C (sharesAt m x) (sharesAt m y) (left .masks)
 
 abbrev pub FitsIn : Work → Machine → Tapes → Type 0

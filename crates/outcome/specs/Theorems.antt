@@ -115,7 +115,7 @@ ChannelsStand = (o : Order) (m : Machine) (T : Tapes) (c : Place → List ℕ) (
     × ((k : ℕ) → k < m .«channels_at» → getD (step o m T c .channels i) k 0 ≡ getD (c i) k 0)
     × ((k : ℕ) → m .«channels_at» + wordsOf (workOf o (publicOf m)) ≤ k → getD (step o m T c .channels i) k 0 ≡ getD (c i) k 0)
 
--- "A refused order answers value 0 and 0 gates. An accepted one answers value 0 unless it opens"
+-- "An accepted one answers value 0 unless it opens"; a refused order's value and gates are `Unchanged`'s
 abbrev pub ValueAnswered : Type 0
 ValueAnswered = (o : Order) (m : Machine) (T : Tapes) (c : Place → List ℕ)
     → isOpening o ≡ false

@@ -2,16 +2,15 @@
 use Prim.Native.Nat.{ℕ, _*_, _<_}
 use mathlib.Core.Bool.{Bool, cond, false, false≢true, true, _&&_}
 use mathlib.Core.List.{List, _∷_}
-use mathlib.Core.Path.{_≡_, ap, ap₂, fun-ext, refl, subst, sym, _∙_}
-use native.Mathlib.Omega.{arith}
+use mathlib.Core.Path.{_≡_, ap, ap₂, refl, subst, sym, _∙_}
 use lib.Dec.{eqb}
-use lib.ListN.{drop, getD, length, length-take, take}
+use lib.ListN.{drop, getD, length}
 use borrow.Author.Tests.{eq-eqb, ne-eqb}
 use Rattle.ring.specs.Rings.{modulus}
-use Rattle.gate.specs.Places.{Place, tabled}
+use Rattle.gate.specs.Places.{Place}
 use Rattle.machine.specs.Checks.{Lengths, Tapes, firstMet, publicChecks}
 use Rattle.machine.specs.Registers.{Public, kindAt, publicOf, registerAt, widthAt}
-use Rattle.machine.specs.Step.{Outcome, lengthsOf, valueOf}
+use Rattle.machine.specs.Step.{valueOf}
 use Rattle.machine.specs.declared.orders.Order.{Order}
 use Rattle.machine.specs.declared.orders.Order.the-variants.{Add, Compose, Convert, Deal, Decompose, Multiply, Open, Scale, Shift}
 use Rattle.machine.specs.declared.registers.Machine.{Machine}
@@ -19,26 +18,7 @@ use Rattle.job.specs.Jobs.{AlikeOrders, Entry, Small, TakesSmall, isOpening, le
 use Rattle.job.specs.Jobs as jobs
 use Rattle.outcome.specs.Same.{Same}
 use Rattle.outcome.proofs.Theorems.{public-refusal}
-
--- tapes of the same lengths
-pub record EvenTapes (T T′ : Tapes) : Type 0 where
-  pub masks : (i : Place) → length (T .masks i) ≡ length (T′ .masks i)
-  pub dealer : length (T .dealer) ≡ length (T′ .dealer)
-
-lengths-equal : {a a′ b b′ : Place → ℕ} {n n′ : ℕ} → a ≡ a′ → n ≡ n′ → b ≡ b′
-    → _≡_ {A = Lengths} (record { masks = a; dealer = n; channels = b }) (record { masks = a′; dealer = n′; channels = b′ })
-lengths-equal p q r = rw (p, q, r)
-
-taken-length : (n : ℕ) (l l′ : List ℕ) → length l ≡ length l′ → length (take n l) ≡ length (take n l′)
-taken-length n l l′ e = omega (arith, length-take n l, length-take n l′, e)
-
-pub even-lengths : (e : Entry) (T T′ : Tapes) → EvenTapes T T′ → (c c′ : Place → List ℕ) → ((i : Place) → length (c i) ≡ length (c′ i))
-    → lengthsOf (lent e T) c ≡ lengthsOf (lent e T′) c′
-even-lengths e T T′ even c c′ lens =
-    lengths-equal
-    (ap tabled (fun-ext (λ i. taken-length (e .masksLent i) (T .masks i) (T′ .masks i) (even .masks i))))
-    (taken-length (e .dealerLent) (T .dealer) (T′ .dealer) (even .dealer))
-    (ap tabled (fun-ext lens))
+use Rattle.change.proofs.LeftLaw.{EvenTapes, even-lengths, same-entry}
 
 -- the same refusal, unless an item is refused
 pub follows : (e : Entry) (m m′ : Machine) (T T′ : Tapes) (c c′ : Place → List ℕ) → Same m m′ → EvenTapes T T′
@@ -47,7 +27,7 @@ pub follows : (e : Entry) (m m′ : Machine) (T T′ : Tapes) (c c′ : Place �
     → outcome e m T c .refusal ≡ outcome e m′ T′ c′ .refusal
 follows e m m′ T T′ c c′ same even lens t t′ =
     public-refusal (e .order) m (lent e T) c (same .left .sound) t
-    ∙ ap₂ (λ (p : Public) (l : Lengths). firstMet (publicChecks (e .order) p l)) (same .public) (even-lengths e T T′ even c c′ lens)
+    ∙ ap₂ (λ (p : Public) (l : Lengths). firstMet (publicChecks (e .order) p l)) (same .public) (even-lengths (same-entry e) T T′ even c c′ lens)
     ∙ sym (public-refusal (e .order) m′ (lent e T′) c′ (same .right .sound) t′)
 
 -- 4a is below p in both

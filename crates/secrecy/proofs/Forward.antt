@@ -1,7 +1,7 @@
 -- A fair run of J goes to a fair run of K with the same views, order by order, beside one fair run of each.
 use Prim.Native.Nat.{ℕ}
 use mathlib.Core.Bool.{Bool, true}
-use mathlib.Core.List.{List, [], _∷_, map}
+use mathlib.Core.List.{List, _∷_, map}
 use mathlib.Core.Path.{_≡_, ap, ap₂, refl, subst, subst₂, sym, _∙_}
 use native.Mathlib.Omega.{arith}
 use lib.ListN.{length}
@@ -9,28 +9,27 @@ use Rattle.gate.specs.Places.{Place}
 use Rattle.machine.specs.Checks.{Lengths, Tapes, badItem, firstMet, leftOf, publicChecks}
 use Rattle.machine.specs.Registers.{Public, publicOf}
 use Rattle.machine.specs.Step.{Outcome, lengthsOf, performed, refused, step}
-use Rattle.machine.specs.Work.{Work, adjusts, computes, deals, opens, workOf}
+use Rattle.machine.specs.Work.{Work, workOf}
 use Rattle.machine.specs.declared.orders.Order.{Order}
 use Rattle.machine.specs.declared.orders.Order.the-variants.{Add, Compose, Convert, Deal, Decompose, Multiply, Open, Scale, Shift}
 use Rattle.machine.specs.declared.registers.Machine.{Machine}
 use Rattle.party.specs.Own.{Own, ownOf}
-use Rattle.job.specs.Jobs.{AlikeEntries, AlikeLists, AlikeOrders, Entry, FairFrom, FairOrder, RefusedNumber, TakesSmall, View, courseFrom, isOpening, lent, openedFrom, outcome, viewOf}
+use Rattle.job.specs.Jobs.{AlikeEntries, AlikeLists, AlikeOrders, Entry, FairFrom, FairOrder, RefusedNumber, courseFrom, isOpening, lent, openedFrom, outcome, viewOf}
 use Rattle.job.specs.Jobs as jobs
 use Rattle.job.specs.Secrecy.{Hidden, tapesWith}
 use Rattle.outcome.specs.Same.{Same}
-use Rattle.outcome.specs.Theorems.{valueAt}
 use Rattle.outcome.proofs.CheckLaw.{accepted, refused-is}
 use Rattle.outcome.proofs.Same.{keeps-same}
 use Rattle.outcome.proofs.Theorems.{channels-stand, opens-value, public-refusal}
-use Rattle.change.specs.Changes.{Changed, before, differ, end, go, item, itemsK, nextK, outcomeJ, outcomeK, restOf, skip}
-use Rattle.change.proofs.GoLaw.{alike-works, doneJ-is, doneK′, inside, left, left-by, left′, nextK-is, partner, rest-after}
-use Rattle.change.proofs.InverseLaw.{kept-refusal, same-entry}
-use Rattle.change.proofs.LeftLaw.{SameLengths, lengths-same}
+use Rattle.change.specs.Changes.{Changed, before, differ, end, go, item, itemsK, nextK, outcomeJ, restOf, skip}
+use Rattle.change.proofs.GoLaw.{doneK′, inside, left-by, nextK-is, partner, rest-after}
+use Rattle.change.proofs.InverseLaw.{kept-refusal}
+use Rattle.change.proofs.LeftLaw.{EvenTapes, SameLengths, even-lengths, lengths-beside, same-entry}
 use Rattle.change.proofs.LevelLaw.{Level, works-alike}
 use Rattle.change.proofs.OrderLaw.{refusal-sound, refusalBy}
 use Rattle.change.proofs.WorkLaw.{AlikeWork}
 use Rattle.secrecy.proofs.AlikeLaw.{items-same, public-same}
-use Rattle.secrecy.proofs.FollowLaw.{EvenTapes, even-lengths, follows, opened-accepted, opened-refused, opening-alike, opensWith, small-same}
+use Rattle.secrecy.proofs.FollowLaw.{follows, opened-accepted, opened-refused, opening-alike, opensWith, small-same}
 use Rattle.secrecy.proofs.OwnLaw.{OpensSame, answers-same, own-after, view-same}
 
 -- four runs at one order: J's and K's reference runs at records mT and nT, and the runs at m and n that U compares
@@ -101,34 +100,31 @@ module _ (U : Place) (own far : List ℕ) (h k : Hidden) (lens : SameLengths h k
     level = on-level four
 
     lengthsK′ : lengthsOf (lent e TJ) c ≡ lengthsOf (lent f TJ) d
-    lengthsK′ = lengths-same U own far alike h h (record { dealer = refl; lacked = refl }) c d (four .lengths)
+    lengthsK′ = even-lengths alike TJ TJ (record { masks = λ i. refl; dealer = refl }) c d (four .lengths)
 
-    refusalT′ : outcome f nT T′ dT .refusal ≡ publicAt
-    refusalT′ =
+    isPublicT′ : outcome f nT T′ dT .refusal ≡ publicAt
+    isPublicT′ =
         public-refusal (f .order) nT (lent f T′) dT (four .followsK .left .sound) (fairT′ .item)
         ∙ ap₂ (λ (p : Public) (l : Lengths). firstMet (publicChecks (f .order) p l))
         (four .followsK .public ∙ sym (level .public))
-        (even-lengths f T′ TK evenK dT d (four .lengthsK)
-        ∙ sym (lengths-same U own far (same-entry f) h k lens d d (λ i. refl))
+        (even-lengths (same-entry f) T′ TK evenK dT d (four .lengthsK)
+        ∙ sym (lengths-beside U own far f h k lens d)
         ∙ sym lengthsK′)
 
     samePublic : publicJ ≡ publicAt
     samePublic =
         public-same (alike .order) (publicOf m) (lengthsOf (lent e TJ) c)
         (λ r. fairJ .number (subst (RefusedNumber (e .order)) (sym isPublicJ) r))
-        (λ r. fairT′ .number (subst (RefusedNumber (f .order)) (sym refusalT′) r))
+        (λ r. fairT′ .number (subst (RefusedNumber (f .order)) (sym isPublicT′) r))
 
     -- all four refusals are one
-    pub referenceT : outcome e mT T cT .refusal ≡ outcome e m TJ c .refusal
-    referenceT = refusalT
-
-    pub referenceT′ : outcome f nT T′ dT .refusal ≡ outcome e m TJ c .refusal
-    referenceT′ = refusalT′ ∙ sym samePublic ∙ sym isPublicJ
+    refusalT′ : outcome f nT T′ dT .refusal ≡ outcome e m TJ c .refusal
+    refusalT′ = isPublicT′ ∙ sym samePublic ∙ sym isPublicJ
 
     left-level : leftOf (publicOf n) (lent f TJ) ≡ leftOf (publicOf m) (lent e TJ)
     left-level = left-by (sym (level .public)) (sym (alike .masksLent)) (sym (alike .dealerLent)) TJ
 
-    pub testedK : outcome e m TJ c .refusal ≡ outcome f n TJ d .refusal
+    testedK : outcome e m TJ c .refusal ≡ outcome f n TJ d .refusal
     testedK =
         refusal-sound (e .order) m (lent e TJ) c (level .left)
         ∙ ap₂ refusalBy
@@ -166,13 +162,13 @@ module _ (U : Place) (own far : List ℕ) (h k : Hidden) (lens : SameLengths h k
           testedK
           ∙ kept-refusal U own far h k lens f n d (level .right) (λ q. z (testedK ∙ q)) (λ q. fairJ .item (testedK ∙ q))
 
-      pub stay : (es fs : List Entry) → Goal es fs m n c d → Goal (e ∷ es) (f ∷ fs) m n c d
+      stay : (es fs : List Entry) → Goal es fs m n c d → Goal (e ∷ es) (f ∷ fs) m n c d
       stay es fs goal =
           more-by es fs (refused (outcome e m TJ c .refusal) m c) (refused (outcome f n TK d .refusal) n d)
           (refused-is (e .order) m (lent e TJ) c z)
           (refused-is (f .order) n (lent f TK) d (λ q. z (refusedK ∙ q)))
           (record {
-            number = λ r. fairT′ .number (subst (RefusedNumber (f .order)) (sym (referenceT′ ∙ refusedK)) r);
+            number = λ r. fairT′ .number (subst (RefusedNumber (f .order)) (sym (refusalT′ ∙ refusedK)) r);
             item = λ q. fairJ .item (refusedK ∙ q);
             small = λ q. absurd (z (refusedK ∙ q));
           })
@@ -187,10 +183,10 @@ module _ (U : Place) (own far : List ℕ) (h k : Hidden) (lens : SameLengths h k
       K-done = doneK′ U own far h k lens e f alike m n c d level doneJ doneK out rest
 
       T-done : outcome e mT T cT .refusal ≡ 0
-      T-done = referenceT ∙ doneJ
+      T-done = refusalT ∙ doneJ
 
       T′-done : outcome f nT T′ dT .refusal ≡ 0
-      T′-done = referenceT′ ∙ doneJ
+      T′-done = refusalT′ ∙ doneJ
 
       abbrev workJ : Work
       workJ = workOf (e .order) (publicOf m)
@@ -226,7 +222,7 @@ module _ (U : Place) (own far : List ℕ) (h k : Hidden) (lens : SameLengths h k
           same-openings
           (partner U own far h k lens e f alike m n c d level doneJ doneK out rest)
 
-      pub pass : (es fs : List Entry)
+      pass : (es fs : List Entry)
           → Goal es fs (outcomeJ U own far h e f m n c d .machine) (nextK U own far h e f m n c d .machine)
           (outcomeJ U own far h e f m n c d .channels) (nextK U own far h e f m n c d .channels)
           → Goal (e ∷ es) (f ∷ fs) m n c d
@@ -246,7 +242,7 @@ module _ (U : Place) (own far : List ℕ) (h k : Hidden) (lens : SameLengths h k
           (sym (nextK-is U own far h k lens e f alike m n c d level doneJ doneK out rest) ∙ K-is)
           goal)
 
-      pub next-four : Four U (outcome e mT T cT .machine) (outcome f nT T′ dT .machine)
+      next-four : Four U (outcome e mT T cT .machine) (outcome f nT T′ dT .machine)
           (outcomeJ U own far h e f m n c d .machine) (nextK U own far h e f m n c d .machine)
           (outcome e mT T cT .channels) (outcome f nT T′ dT .channels)
           (outcomeJ U own far h e f m n c d .channels) (nextK U own far h e f m n c d .channels)
@@ -281,8 +277,8 @@ module _ (U : Place) (own far : List ℕ) (h k : Hidden) (lens : SameLengths h k
   forward (item ten) (jobs.more a tail) four rest (jobs.fair fT restT) (jobs.fair fT′ restT′) opened (jobs.fair fJ restJ) = absurd (fJ .item ten)
   forward {mT = mT} {nT = nT} {cT = cT} {dT = dT} (skip {e = e} {f = f} {es = es} {fs = fs} {m = m} {n = n} {c = c} {d = d} eq t z sub)
       (jobs.more a tail) four rest (jobs.fair fT restT) (jobs.fair fT′ restT′) opened (jobs.fair fJ restJ) =
-      let isT = referenceT U own far h k lens T T′ evenJ evenK e f a mT nT m n cT dT c d four fT fT′ fJ in
-      let isT′ = referenceT′ U own far h k lens T T′ evenJ evenK e f a mT nT m n cT dT c d four fT fT′ fJ in
+      let isT = refusalT U own far h k lens T T′ evenJ evenK e f a mT nT m n cT dT c d four fT fT′ fJ in
+      let isT′ = refusalT′ U own far h k lens T T′ evenJ evenK e f a mT nT m n cT dT c d four fT fT′ fJ in
       let stayT = refused-is (e .order) mT (lent e T) cT (λ q. z (sym isT ∙ q)) in
       let stayT′ = refused-is (f .order) nT (lent f T′) dT (λ q. z (sym isT′ ∙ q)) in
       let stayJ = refused-is (e .order) m (lent e (tapesWith U own far h)) c z in
@@ -303,8 +299,8 @@ module _ (U : Place) (own far : List ℕ) (h k : Hidden) (lens : SameLengths h k
       (subst (λ (o : Outcome). FairFrom es (o .machine) (o .channels) (tapesWith U own far h)) stayJ restJ))
   forward {mT = mT} {nT = nT} {cT = cT} {dT = dT} (go {e = e} {f = f} {es = es} {fs = fs} {m = m} {n = n} {c = c} {d = d} {out = out} doneJ doneK sub)
       (jobs.more a tail) four rest (jobs.fair fT restT) (jobs.fair fT′ restT′) opened (jobs.fair fJ restJ) =
-      let isT = referenceT U own far h k lens T T′ evenJ evenK e f a mT nT m n cT dT c d four fT fT′ fJ in
-      let isT′ = referenceT′ U own far h k lens T T′ evenJ evenK e f a mT nT m n cT dT c d four fT fT′ fJ in
+      let isT = refusalT U own far h k lens T T′ evenJ evenK e f a mT nT m n cT dT c d four fT fT′ fJ in
+      let isT′ = refusalT′ U own far h k lens T T′ evenJ evenK e f a mT nT m n cT dT c d four fT fT′ fJ in
       let both = opened-accepted (isOpening (e .order)) (outcome e mT T cT .refusal) (outcome f nT T′ dT .refusal)
       (outcome e mT T cT .value) (outcome f nT T′ dT .value)
       (openedFrom es (outcome e mT T cT .machine) (outcome e mT T cT .channels) T)

@@ -1,19 +1,16 @@
 -- An opening tells a party no more than the value: the sub-share that it lacks follows from the value and its own two.
 use Prim.Native.Nat.{ℕ, zero, suc, _+_, _*_, _/_, _%_, _<_}
 use mathlib.Core.Path.{_≡_, ap, ap₂, refl, sym, _∙_}
-use native.Mathlib.Nat.{div-add-mod', mod-lt}
 use native.Mathlib.Omega.{arith}
 use lib.Arith.{bin-ind}
-use lib.Bits.{bitXor, differ, xor-comm, xor-lt, xor-step, xor-zero-l}
-use Rattle.ring.specs.Modular.{Cong}
+use lib.Bits.{bitXor, differ, xor-comm, xor-step, xor-zero-l}
 use Rattle.ring.specs.Rings.{modulusOf}
-use Rattle.ring.proofs.BitLaw.{xor-bit}
-use Rattle.ring.proofs.CongLaw.{cong-cancel, cong-of-eq, cong-small, cong-trans}
+use Rattle.ring.proofs.CongLaw.{cong-cancel, cong-small}
 use Rattle.gate.specs.Places.{Below, Place, next, p0, p1, p2, total}
 use Rattle.circuit.specs.Bits.{exclusive}
 use Rattle.view.specs.Views.{lackedBy}
 use Rattle.machine.specs.Registers.{Kind, bits, empty, number}
-use Rattle.outcome.proofs.RegisterLaw.{FewBits, Fits, valueAs}
+use Rattle.outcome.proofs.RegisterLaw.{Fits, valueAs}
 
 differ-bit : (x y : ℕ) → x < 2 → y < 2 → differ x y ≡ (x + y) % 2
 differ-bit zero y hx hy = omega arith

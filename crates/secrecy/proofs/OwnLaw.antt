@@ -1,17 +1,17 @@
 -- What a party has after an accepted order of each job is the same, where it had the same before and the orders bring it the same.
 use Prim.Native.Nat.{ℕ}
-use mathlib.Core.Bool.{false, false≢true, true}
+use mathlib.Core.Bool.{false, false≢true}
 use mathlib.Core.List.{List, [], _∷_}
 use mathlib.Core.Path.{_≡_, ap, refl, subst, sym, _∙_}
 use lib.ListN.{getD}
-use Rattle.gate.specs.Places.{Pair, Place, next, parts}
+use Rattle.gate.specs.Places.{Pair, Place, next}
 use Rattle.view.specs.Views.{lackedBy}
 use Rattle.machine.specs.Checks.{Tapes, isEmpty}
-use Rattle.machine.specs.Registers.{Kind, Public, empty, kindAt, publicOf, registerAt, sharesOf}
+use Rattle.machine.specs.Registers.{Kind, Public, empty, kindAt, publicOf}
 use Rattle.machine.specs.Step.{Outcome, computed, dealt, opened, performed}
 use Rattle.machine.specs.Work.{Work, adjusts, computes, deals, opens}
 use Rattle.machine.specs.declared.registers.Machine.{Machine}
-use Rattle.party.specs.Own.{Brought, Own, brought, column, handedOf, ownOf, ownPerformed, receivedOf}
+use Rattle.party.specs.Own.{Brought, Own, brought, ownOf, ownPerformed, receivedOf}
 use Rattle.party.proofs.Local.{column-at, step-local}
 use Rattle.job.specs.Jobs.{View, viewOf}
 use Rattle.outcome.specs.Same.{Good}

@@ -1,27 +1,25 @@
 -- Demand 3 (crate `job`, specs/Secrecy.antt).
 use Prim.Native.Nat.{ℕ}
-use mathlib.Core.Bool.{true}
-use mathlib.Core.List.{List, [], _∷_}
+use mathlib.Core.List.{List}
 use mathlib.Core.Path.{_≡_, ap, refl, subst, sym, _∙_}
 use lib.ListN.{length}
 use Rattle.gate.specs.Places.{Place, next}
 use Rattle.view.specs.Views.{around, lackedBy}
+use Rattle.view.proofs.AroundLaw.{around-far, around-lacked, around-own, each-around}
 use Rattle.machine.specs.Checks.{Tapes}
 use Rattle.machine.specs.Registers.{emptyMachine, sound, soundRegister, soundSlots}
 use Rattle.machine.specs.declared.orders.Order.{Order}
 use Rattle.party.specs.Own.{ownOf}
-use Rattle.job.specs.Jobs.{Alike, AlikeEntries, AlikeLists, AlikeOrders, Entry, Fair, IsRun, Job, Words, course, views}
+use Rattle.job.specs.Jobs.{Alike, AlikeLists, AlikeOrders, Entry, Fair, IsRun, Job, Words, course, views}
 use Rattle.job.specs.Jobs as jobs
-use Rattle.job.specs.Secrecy.{Change, Hidden, Hides, Meet, Secrecy, tapesWith}
+use Rattle.job.specs.Secrecy.{Hidden, Hides, Meet, Secrecy, tapesWith}
 use Rattle.outcome.specs.Same.{Good, Same}
-use Rattle.change.specs.Changes.{Changed, restOf}
-use Rattle.change.proofs.AroundLaw.{around-far, around-lacked, around-own, each-around}
+use Rattle.change.specs.Changes.{Changed}
 use Rattle.change.proofs.InverseLaw.{change, inverse, unique}
-use Rattle.change.proofs.LeftLaw.{SameLengths}
+use Rattle.change.proofs.LeftLaw.{EvenTapes}
 use Rattle.change.proofs.LevelLaw.{Level}
-use Rattle.change.proofs.SizeLaw.{hides-kept}
-use Rattle.secrecy.proofs.FollowLaw.{EvenTapes}
-use Rattle.secrecy.proofs.Forward.{Four, forward}
+use Rattle.change.proofs.SizeLaw.{hides-kept, lengths-whole, rest-empty}
+use Rattle.secrecy.proofs.Forward.{forward}
 
 -- being alike goes both ways
 orders-back : {o o′ : Order} → AlikeOrders o o′ → AlikeOrders o′ o
@@ -77,26 +75,13 @@ module _ (U : Place) (own far : List ℕ) where
         lengths = λ i. ap (λ (c : Place → List ℕ). length (c i)) (a .channels);
       }
 
-  same-lengths : (J K : Job) (a : Alike J K) (h : Hidden) → Hides J U h → SameLengths h (image J K a h)
-  same-lengths J K a h hides =
-      let hidden = image-hides J K a h hides in
-      record {
-        dealer = hides .dealer .long ∙ a .dealerLength ∙ sym (hidden .dealer .long);
-        lacked = hides .lacked .long ∙ ap (λ (n : Place → ℕ). n (lackedBy U)) (a .masksLength) ∙ sym (hidden .lacked .long);
-      }
-
   -- and back again
-  image-back : (J K : Job) (a : Alike J K) (b : Alike K J) (h : Hidden) → Hides J U h → image K J b (image J K a h) ≡ h
+  image-back : (J K : Job) (a : Alike J K) (b : Alike K J) (h : Hidden) → image K J b (image J K a h) ≡ h
   unfolding emptyMachine
-  image-back J K a b h hides =
+  image-back J K a b h =
       let k = image J K a h in
       unique U own far (changed K J b k)
-      (inverse U own far (changed J K a h) (a .entries) k (same-lengths J K a h hides) (starts-level J K a) refl)
-
-  -- at the start all of a tape is left
-  all-left : (k : Hidden) → restOf emptyMachine k ≡ k
-  unfolding emptyMachine
-  all-left k = refl
+      (inverse U own far (changed J K a h) (a .entries) k (lengths-whole U own far h (changed J K a h) (a .entries)) (starts-level J K a) refl)
 
   -- tapes of a job's lengths
   even-tapes : (J : Job) (T : Tapes) → IsRun J T → Words (J .masksLength U) own → Words (J .masksLength (next U)) far
@@ -120,7 +105,7 @@ module _ (U : Place) (own far : List ℕ) where
       let k = image J K a h in
       let wo′ = subst (λ (n : Place → ℕ). Words (n U) own) (a .masksLength) wo in
       let wf′ = subst (λ (n : Place → ℕ). Words (n (next U)) far) (a .masksLength) wf in
-      forward U own far h k (same-lengths J K a h hides) T T′
+      forward U own far h k (lengths-whole U own far h (changed J K a h) (a .entries)) T T′
       (even-tapes J T (meet .runJ) wo wf h hides)
       (even-tapes K T′ (meet .runK) wo′ wf′ k (image-hides J K a h hides))
       (changed J K a h) (a .entries)
@@ -132,7 +117,7 @@ module _ (U : Place) (own far : List ℕ) where
         lengthsK = λ i. refl;
         lengths = λ i. ap (λ (c : Place → List ℕ). length (c i)) (a .channels);
       })
-      (all-left k)
+      (rest-empty k)
       (meet .fairJ) (meet .fairK) (meet .opened) fairJ
 
 meet-back : {J K : Job} {T T′ : Tapes} → Meet J K T T′ → Meet K J T′ T
@@ -152,11 +137,11 @@ secrecy J K a U own far wo wf =
       from = image U own far K J b;
       to-hides = image-hides U own far J K a;
       from-hides = image-hides U own far K J b;
-      from-to = home;
-      to-from = image-back U own far K J b a;
+      from-to = λ h hides. home h;
+      to-from = λ h hides. image-back U own far K J b a h;
       fair = λ T T′ meet h hides. (
         (λ f. forth T T′ meet h hides f .0),
-        (λ f. subst (λ (x : Hidden). Fair J (tapesWith U own far x)) (home h hides)
+        (λ f. subst (λ (x : Hidden). Fair J (tapesWith U own far x)) (home h)
             (back T′ T (meet-back meet) (to h) (image-hides U own far J K a h hides) f .0)),
       );
       alike = λ T T′ meet h hides f. forth T T′ meet h hides f .1;

@@ -1,1 +1,2 @@
+pub mod AroundLaw
 pub mod Theorems

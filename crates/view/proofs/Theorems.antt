@@ -8,10 +8,11 @@ use Rattle.gate.specs.Gates.{word}
 use Rattle.gate.specs.Places.{Pair, Place, held, next, p0, p1, p2, pair, tabled}
 use Rattle.gate.proofs.PlaceLaw.{gated-at, tabled-at, tabled-is}
 use Rattle.gate.proofs.Theorems.{item-of-word, items-fit, word-of-item}
-use Rattle.circuit.specs.Circuits.{Gate, after, ends, heads, moduli, sent, tails, words}
+use Rattle.circuit.specs.Circuits.{Gate, after, ends, heads, sent, tails, words}
 use Rattle.circuit.proofs.RunLaw.{words-below}
 use Rattle.view.specs.Theorems.{EndsLocal, ItemsFit, ItemsOfWords, SentLocal, WordsFit, WordsOfItems}
-use Rattle.view.specs.Views.{Fits, Held, around, decode, encode, first, heldStates, lackedItem, more, none, ownAfter, ownEnds, ownSent, ownWord}
+use Rattle.view.specs.Views.{around, decode, encode, first, heldStates, lackedItem, more, none, ownAfter, ownEnds, ownSent, ownWord}
+use Rattle.view.proofs.AroundLaw.{around-far, around-lacked}
 
 -- U's word is its own
 own-word-is : {S : Type 0} (U : Place) (g : Gate S) (s : Place → S) (t : Place → ℕ)
@@ -55,17 +56,7 @@ sent-local S U (g ∷ G) s T =
     (sent-local S U G (after g s (words g s (heads T))) (tails T)
     ∙ rw (turn S U g s T, tabled-at (λ i. drop 1 (T i)) U, tabled-at (λ i. drop 1 (T i)) (next U)))
 
--- what stands around U
-around-far {ℓ} : {A : Type ℓ} (U : Place) (a b c : A) → around U a b c (next U) ≡ b
-around-far p0 a b c = refl
-around-far p1 a b c = refl
-around-far p2 a b c = refl
-
-around-lacked {ℓ} : {A : Type ℓ} (U : Place) (a b c : A) → around U a b c (next (next U)) ≡ c
-around-lacked p0 a b c = refl
-around-lacked p1 a b c = refl
-around-lacked p2 a b c = refl
-
+-- the first items and the others, seen from U
 heads-around : (U : Place) (t t′ M : List ℕ) → heads (around U t t′ M) ≡ around U (first t) (first t′) (first M)
 heads-around p0 t t′ M = refl
 heads-around p1 t t′ M = refl
