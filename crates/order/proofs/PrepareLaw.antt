@@ -1,15 +1,15 @@
 -- Orders 2 to 8, each from its verdict and its sources as the code finds them.
 use Prim.Native.Nat.{ℕ, _-_, _<_}
-use mathlib.Core.Bool.{Bool, cond, false, not, true, _&&_, _||_}
+use mathlib.Core.Bool.{Bool, false, not, true, _&&_, _||_}
 use mathlib.Core.List.{List, [], _∷_, _++_}
 use mathlib.Core.Path.{_≡_, refl, ap, sym, _∙_}
 use borrow.Author.Tests.{eqb-true, leb-false, leb-true, not-false}
 use lib.Dec.{eqb, leb}
 use Rattle.ring.specs.Rings.{modulus, modulusOf, ringOf, widthOf}
 use Rattle.ring.specs.declared.rings.OfWidth.{OfWidth}
-use Rattle.ring.specs.declared.rings.OfWidth.the-variants.{Named, NoRing}
+use Rattle.ring.specs.declared.rings.OfWidth.the-variants.{Named}
 use Rattle.ring.specs.declared.rings.Ring.{Ring}
-use Rattle.ring.specs.declared.rings.Ring.the-variants.{R13, R31, R61}
+use Rattle.ring.proofs.RangeLaw.{width-named}
 use Rattle.gate.specs.Places.{InRange}
 use Rattle.gate.specs.declared.sharing.Sharing.{Sharing}
 use Rattle.circuit.specs.Circuits.{ends, result}
@@ -30,18 +30,6 @@ use Rattle.order.specs.declared.tasks.Task.the-variants as task
 use Rattle.order.proofs.KindlyLaw.{unmet, unmet-rest}
 use Rattle.order.proofs.SoundLaw.{few-bits, in-width, is-bits, is-number, kind-at, one-false, other-false, seated}
 use Rattle.order.proofs.StepLaw.{gated, locally}
-
--- the width of a ring that is named
-pub width-named : (f : ℕ) {g : Ring} → ringOf f ≡ Named g → f ≡ widthOf g
-unfolding ringOf
-width-named f {g} e = go (eqb f 13) (eqb f 31) (eqb f 61) refl refl refl e
-  where
-    go : (a b c : Bool) → eqb f 13 ≡ a → eqb f 31 ≡ b → eqb f 61 ≡ c
-        → cond a (Named R13) (cond b (Named R31) (cond c (Named R61) NoRing)) ≡ Named g → f ≡ widthOf g
-    go true b c h k l e = let q : R13 ≡ g = cc in eqb-true f 13 h ∙ ap widthOf q
-    go false true c h k l e = let q : R31 ≡ g = cc in eqb-true f 31 k ∙ ap widthOf q
-    go false false true h k l e = let q : R61 ≡ g = cc in eqb-true f 61 l ∙ ap widthOf q
-    go false false false h k l e = cc
 
 bits-kind : (k : Kind) → isBits k ≡ true → k ≡ bits (countAt k)
 bits-kind empty h = cc
