@@ -27,7 +27,7 @@ use Rattle.machine.specs.declared.registers.Register.{Register}
 use Rattle.order.specs.Answers.{verdictOf}
 use Rattle.order.specs.Attempts.{At, attempted, lengthVerdict, lengthsOf, masksLeft, positions, ran, tried}
 use Rattle.order.specs.Changes.{Changes}
-use Rattle.order.specs.Tasks.{Costs, Fit, Ready, Seated, circuitOf, kindLeft, otherOf, sourceOf}
+use Rattle.order.specs.Tasks.{Fit, Ready, Seated, circuitOf, kindLeft, otherOf, sourceOf}
 use Rattle.order.specs.declared.answers.Verdict.{Verdict}
 use Rattle.order.specs.declared.answers.Verdict.the-variants.{Because, Fine}
 use Rattle.order.specs.declared.changes.Change.{Change}
@@ -36,6 +36,7 @@ use Rattle.order.specs.declared.tasks.Cost.{Cost}
 use Rattle.order.specs.declared.tasks.Prepared.{Prepared}
 use Rattle.order.specs.declared.tasks.Prepared.the-variants.{Gates, Local}
 use Rattle.order.specs.declared.tasks.Task.{Task}
+use Rattle.order.proofs.CostLaw.{Costs}
 use Rattle.order.proofs.KindlyLaw.{unmet, unmet-rest}
 use Rattle.order.proofs.SoundLaw.{one-false, other-false}
 use Rattle.order.proofs.VerdictLaw.{numbered}

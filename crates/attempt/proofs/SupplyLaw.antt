@@ -2,7 +2,7 @@
 use Prim.Native.Nat.{ℕ, _+_, _*_, _-_, _≤_}
 use mathlib.Core.Bool.{Bool, false}
 use mathlib.Core.List.{List, _++_}
-use mathlib.Core.Path.{_≡_, refl, ap, ap₂, subst, sym, _∙_}
+use mathlib.Core.Path.{_≡_, ap, ap₂, subst, sym, _∙_}
 use native.Mathlib.Omega.{arith}
 use lib.ListN.{drop, length, length-append, length-map, length-replicate, replicate}
 use Rattle.ring.specs.Rings.{modulusOf, widthOf}
@@ -14,20 +14,13 @@ use Rattle.circuit.specs.Circuits.{gatesOf}
 use Rattle.circuit.specs.Lent.{ItemsBelow, Long}
 use Rattle.compose.proofs.RunsLaw.{long-less}
 use Rattle.machine.specs.Checks.{anyBad}
-use Rattle.order.specs.Tasks.{Costs, Decomposes, Fit, Multiplies, Shifts, circuitOf}
+use Rattle.order.specs.Tasks.{Decomposes, Fit, Multiplies, Shifts, circuitOf, costOf}
 use Rattle.order.specs.declared.tasks.Cost.{Cost}
 use Rattle.order.specs.declared.tasks.Task.{Task}
 use Rattle.order.specs.declared.tasks.Task.the-variants.{Compose, Convert, Decompose, Multiply, Shift}
-use Rattle.order.proofs.CostLaw.{compose-costs, convert-costs, decompose-costs, multiply-costs, shift-costs}
-use Rattle.attempt.specs.Supplies.{Supplied, costOf}
+use Rattle.order.proofs.CostLaw.{Costs}
+use Rattle.attempt.specs.Supplies.{Supplied}
 use Rattle.attempt.proofs.ItemsLaw.{both-below}
-
-own-costs : (t : Task) → Fit t → Costs t (costOf t)
-own-costs (Multiply r x y) fit = multiply-costs fit refl refl
-own-costs (Decompose r a l) fit = decompose-costs fit refl refl
-own-costs (Convert e f a) fit = convert-costs fit refl refl
-own-costs (Shift r a s) fit = shift-costs fit refl refl refl
-own-costs (Compose f w l) fit = compose-costs fit refl refl
 
 -- as many gates as a cost says
 pub gates-cost : {t : Task} {k : Cost} → Costs t k → gatesOf (circuitOf t) ≡ k .bits + k .ring
@@ -38,24 +31,16 @@ gates-cost {t} {k} cost =
     ∙ ap₂ _+_ (length-replicate (k .bits) 2) (length-replicate (k .ring) (k .modulus))
 
 -- runs long enough, with no item out of range
-pub supplied : {t : Task} {k : Cost} {t₀ t₁ t₂ c₀ c₁ c₂ : List ℕ} {bad : Bool} → Fit t → Costs t k
+pub supplied : (t : Task) {k : Cost} {t₀ t₁ t₂ c₀ c₁ c₂ : List ℕ} {bad : Bool} → k ≡ costOf t
     → Long (k .bits + k .ring) t₀ t₁ t₂
     → Long (k .bits + k .ring) c₀ c₁ c₂
     → bad ≡ anyBad (replicate (k .bits) 2 ++ replicate (k .ring) (k .modulus)) (three t₀ t₁ t₂)
     → bad ≡ false
     → Supplied (costOf t) t₀ t₁ t₂ c₀ c₁ c₂
-supplied {t} {k} {t₀} {t₁} {t₂} {c₀} {c₁} {c₂} fit cost masks room found good =
-    let own : Costs t (costOf t) = own-costs t fit in
-    let count : k .bits + k .ring ≡ costOf t .bits + costOf t .ring = sym (gates-cost cost) ∙ gates-cost own in
-    let fine : anyBad (replicate (costOf t .bits) 2 ++ replicate (costOf t .ring) (costOf t .modulus)) (three t₀ t₁ t₂) ≡ false
-    = ap (λ (ms : List ℕ). anyBad ms (three t₀ t₁ t₂)) (sym (own .moduli) ∙ cost .moduli) ∙ sym found ∙ good in
-    let items = both-below (costOf t .bits) (costOf t .ring) (costOf t .modulus) fine in
-    record {
-      masks = subst (λ (n : ℕ). Long n t₀ t₁ t₂) count masks;
-      room = subst (λ (n : ℕ). Long n c₀ c₁ c₂) count room;
-      first = items .0;
-      items = items .1;
-    }
+supplied t {k} {t₀} {t₁} {t₂} {c₀} {c₁} {c₂} is masks room found good =
+    let items = both-below (k .bits) (k .ring) (k .modulus) (sym found ∙ good) in
+    subst (λ (k : Cost). Supplied k t₀ t₁ t₂ c₀ c₁ c₂) is
+    (record { masks = masks; room = room; first = items .0; items = items .1 })
 
 -- what each order asks
 module _ {t : Task} {t₀ t₁ t₂ c₀ c₁ c₂ : List ℕ} (fit : Fit t) (s : Supplied (costOf t) t₀ t₁ t₂ c₀ c₁ c₂) where

@@ -7,7 +7,7 @@ ghost use Rattle.machine.specs.Checks.{firstMet, gateChecks};
 ghost use Rattle.order.specs.Answers.{verdictOf};
 ghost use Rattle.order.specs.Attempts.{At, attempted, lengthsIn, positions, tried};
 ghost use Rattle.order.specs.Changes.{Changes};
-ghost use Rattle.order.specs.Tasks.{Costs, Fit, Ready, Seated};
+ghost use Rattle.order.specs.Tasks.{Fit, Ready, Seated, costOf};
 use crate::items::bad_items;
 use crate::words::words;
 use machine::Machine;
@@ -56,7 +56,7 @@ fn run(
     c2: &mut [u64],
 ) -> Change
     requires fit { ⌜ Fit t ⌝ }
-    requires cost { ⌜ Costs t k ⌝ }
+    requires cost { ⌜ k ≡ costOf t ⌝ }
     requires masks { ⌜ Long («masks_at» + (k .bits + k .ring)) (now m0) (now m1) (now m2) ⌝ }
     requires room { ⌜ Long («channels_at» + (k .bits + k .ring)) (now c0) (now c1) (now c2) ⌝ }
     ensures { λ r. ⌜ ((m : Machine) → At m «masks_at» «channels_at» → Seated m d → Changes m r (three (now (c0 .exit)) (now (c1 .exit)) (now (c2 .exit))) (tried t d m (three (now (m0 .entry)) (now (m1 .entry)) (now (m2 .entry))) (three (now (c0 .entry)) (now (c1 .entry)) (now (c2 .entry))))) ⌝ }

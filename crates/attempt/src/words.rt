@@ -1,8 +1,8 @@
 // The gates of orders 4 to 8 on the runs that they are lent.
 ghost use Rattle.gate.specs.Places.{parts, three};
 ghost use Rattle.circuit.specs.Lent.{Left};
-ghost use Rattle.order.specs.Tasks.{Fit, circuitOf, otherOf, sourceOf};
-ghost use Rattle.attempt.specs.Supplies.{Supplied, costOf};
+ghost use Rattle.order.specs.Tasks.{Fit, circuitOf, costOf, otherOf, sourceOf};
+ghost use Rattle.attempt.specs.Supplies.{Supplied};
 use compose::compose;
 use compose::convert;
 use compose::multiply;

@@ -1,14 +1,13 @@
 -- The gates of an accepted order have moduli below 2^61, and so has the ring of a deal.
 use Prim.Native.Nat.{ℕ, zero, suc, _+_, _-_, _<_, _^_}
-use mathlib.Core.Bool.{Bool, cond, false, true, true≢false}
+use mathlib.Core.Bool.{false, true≢false}
 use mathlib.Core.List.{List, [], _∷_, _++_, map}
 use mathlib.Core.Path.{_≡_, refl}
-use lib.Dec.{eqb, lit<}
-use borrow.Author.Tests.{eqb-true}
+use lib.Dec.{lit<}
 use Rattle.ring.specs.Rings.{modulus, ringOf}
+use Rattle.ring.specs.declared.rings.OfWidth.{OfWidth}
 use Rattle.ring.specs.declared.rings.OfWidth.the-variants.{Named, NoRing}
-use Rattle.ring.specs.declared.rings.Ring.the-variants.{R13, R31, R61}
-use Rattle.ring.proofs.RangeLaw.{modulus-lt}
+use Rattle.ring.proofs.RangeLaw.{modulus-lt, width-named}
 use Rattle.gate.specs.Places.{Place}
 use Rattle.circuit.specs.Circuits.{Gate, upto}
 use Rattle.circuit.specs.Compose.{composeGates, firstGate, secondGate}
@@ -62,16 +61,11 @@ kind-narrow (bits l) = lit< tt
 
 -- the modulus of a width that has a ring
 ring-narrow : (e : ℕ) → noRing (ringOf e) ≡ false → modulus e < 2 ^ 61
-unfolding ringOf
-ring-narrow e = go (eqb e 13) (eqb e 31) (eqb e 61) (eqb-true e 13) (eqb-true e 31) (eqb-true e 61)
+ring-narrow e = go (ringOf e) refl
   where
-    go : (a b c : Bool) → (a ≡ true → e ≡ 13) → (b ≡ true → e ≡ 31) → (c ≡ true → e ≡ 61)
-        → noRing (cond a (Named R13) (cond b (Named R31) (cond c (Named R61) NoRing))) ≡ false
-        → modulus e < 2 ^ 61
-    go true b c f g h k = rw (f refl) (modulus-lt R13)
-    go false true c f g h k = rw (g refl) (modulus-lt R31)
-    go false false true f g h k = rw (h refl) (modulus-lt R61)
-    go false false false f g h k = absurd (true≢false k)
+    go : (w : OfWidth) → ringOf e ≡ w → noRing w ≡ false → modulus e < 2 ^ 61
+    go (Named r) is h = rw (width-named e is) (modulus-lt r)
+    go NoRing is h = absurd (true≢false h)
 
 -- every number that an order's items must be below is below 2^61
 abbrev pub NarrowWork : Work → Type 0

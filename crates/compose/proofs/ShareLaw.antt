@@ -4,11 +4,8 @@ use mathlib.Core.Path.{_≡_, _∙_}
 use native.Mathlib.Nat.{add-mod-mod, mod-lt}
 use native.Mathlib.Omega.{arith}
 use lib.Bits.{bitXor}
-use lib.Dec.{lit<}
 use Rattle.ring.specs.Modular.{diff}
-use Rattle.ring.specs.Rings.{bitOf, modulus, modulusOf, quarter, quarterOf}
-use Rattle.ring.specs.declared.rings.Ring.{Ring}
-use Rattle.ring.specs.declared.rings.Ring.the-variants.{R13, R31, R61}
+use Rattle.ring.specs.Rings.{bitOf}
 use Rattle.ring.proofs.BitLaw.{xor-bit}
 use Rattle.ring.proofs.CongLaw.{cong-mod, cong-mul, cong-of-eq, cong-refl, cong-trans, diff-cong}
 use Rattle.gate.specs.Places.{Place, parts, three}
@@ -24,12 +21,6 @@ join-is m u v uv pos sum double is =
     let twice : uv + uv ≡ 2 * uv = omega arith in
     is ∙ diff-cong pos (cong-trans (cong-of-eq sum) (cong-mod m (u + v)))
     (cong-trans (cong-of-eq double) (cong-trans (cong-mod m (uv + uv)) (cong-of-eq twice)))
-
-pub quarter-lt : (r : Ring) → quarterOf r < modulusOf r
-unfolding modulus quarter
-quarter-lt R13 = lit< tt
-quarter-lt R31 = lit< tt
-quarter-lt R61 = lit< tt
 
 pub reduced-lt : (a : ℕ) {m n : ℕ} → m ≡ n → 0 < n → a % m < n
 reduced-lt a e pos = rw e (mod-lt a pos)

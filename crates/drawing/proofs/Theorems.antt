@@ -13,10 +13,10 @@ use Rattle.line.specs.declared.commands.Command.{Command}
 use Rattle.line.specs.declared.commands.Command.the-variants as command
 use Rattle.line.proofs.DecimalLaw.{fit-decimal, reads-back}
 use Rattle.line.proofs.FieldLaw.{both-true, left-true, right-true, split}
-use Rattle.ring.specs.Rings.{modulus, ringOf}
+use Rattle.ring.specs.Rings.{modulusOf, ringOf}
 use Rattle.ring.specs.declared.rings.OfWidth.{OfWidth}
 use Rattle.ring.specs.declared.rings.OfWidth.the-variants.{Named, NoRing}
-use Rattle.ring.specs.declared.rings.Ring.the-variants.{R13, R31, R61}
+use Rattle.ring.proofs.RangeLaw.{modulus-lt}
 use Rattle.tape.specs.Tapes.{Kind as Items, items, kindOf, kindOfRing, other, prepared}
 use Rattle.tape.proofs.Theorems.{in-range, same-length}
 use Rattle.drawing.specs.Draws.{drawn, drawnBy, itemsOf}
@@ -143,10 +143,7 @@ lines-read kind (suc k) ts rest h =
 
 -- items fit a word
 limit-ring : (r : OfWidth) {e limit : ℕ} → kindOfRing r ≡ items e limit → limit < 2 ^ 64
-unfolding modulus
-limit-ring (Named R13) {limit = l} h = let same : l ≡ 2 ^ 13 - 1 = cc in omega arith
-limit-ring (Named R31) {limit = l} h = let same : l ≡ 2 ^ 31 - 1 = cc in omega arith
-limit-ring (Named R61) {limit = l} h = let same : l ≡ 2 ^ 61 - 1 = cc in omega arith
+limit-ring (Named r) {limit = l} h = let same : l ≡ modulusOf r = cc in omega (arith, modulus-lt r)
 limit-ring NoRing h = let wrong : _≡_ {A = ℕ} 0 1 = cc in omega arith
 
 limit-small : (code : ℕ) {e limit : ℕ} → kindOf code ≡ items e limit → limit < 2 ^ 64

@@ -13,6 +13,7 @@ use Rattle.ring.specs.Rings.{modulus, modulusOf, ringOf}
 use Rattle.ring.specs.declared.rings.OfWidth.{OfWidth}
 use Rattle.ring.specs.declared.rings.OfWidth.the-variants.{Named, NoRing}
 use Rattle.ring.specs.declared.rings.Ring.{Ring}
+use Rattle.ring.proofs.RangeLaw.{width-named}
 use Rattle.gate.specs.Places.{Place}
 use Rattle.machine.specs.Checks.{Tapes, check, firstMet, noRing, publicChecks}
 use Rattle.machine.specs.Registers.{million, registerOf}
@@ -29,7 +30,6 @@ use Rattle.order.specs.Answers.{refusalOf}
 use Rattle.order.specs.Changes.{Changes}
 use Rattle.order.specs.declared.changes.Change.the-variants as change
 use Rattle.order.proofs.KindlyLaw.{unmet, unmet-rest}
-use Rattle.order.proofs.PrepareLaw.{width-named}
 use Rattle.order.proofs.SoundLaw.{one-false, other-false}
 use Rattle.exchange.specs.Exchanges.{Dealing, dealChecks, dealtRegister, numberChecks}
 use Rattle.exchange.proofs.CheckLaw.{begun, last-passed, met, others, passed, step-performed, step-refused, there}

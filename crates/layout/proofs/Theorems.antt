@@ -11,6 +11,7 @@ use Rattle.ring.specs.Rings.{ringOf}
 use Rattle.ring.specs.declared.rings.OfWidth.{OfWidth}
 use Rattle.ring.specs.declared.rings.OfWidth.the-variants.{Named, NoRing}
 use Rattle.ring.specs.declared.rings.Ring.the-variants.{R13, R31, R61}
+use Rattle.ring.proofs.RangeLaw.{width-named}
 use Rattle.gate.specs.declared.sharing.Sharing.{Sharing}
 use Rattle.machine.specs.declared.orders.OfKind.the-variants as kinds
 use Rattle.machine.specs.declared.orders.Order.{Order}
@@ -20,7 +21,6 @@ use Rattle.machine.specs.declared.registers.Register.{Register}
 use Rattle.machine.specs.declared.registers.Register.the-variants.{Bits, Empty, Number}
 use Rattle.machine.specs.declared.registers.Slot.{Slot}
 use Rattle.machine.proofs.KindLaw.{left-true, right-true}
-use Rattle.order.proofs.PrepareLaw.{width-named}
 use Rattle.machine.specs.Orders.{ofKind}
 use Rattle.machine.specs.Registers.{emptyMachine, slot}
 use Rattle.layout.specs.Layout.{MachineFound, before, emptyFrom, found, machineFrom, machineOf, machineWords, none, numberFrom, openFrom, orderFrom, orderOf, orderWords, registerFrom, registerOf, registerWords, slotsWords}

@@ -54,7 +54,7 @@ pub fn see(words: &[u64]) -> Seen
 
 // Register k of a record, empty past the last.
 pub fn register_at(words: &[u64], k: u64) -> Register
-    requires { ⌜ length (now words) ≡ 83 ⌝ }
+    requires { ⌜ ((m : Machine) × Says (now words) m) ⌝ }
     ensures { λ r. ⌜ ((m : Machine) → Says (now (words .entry)) m → r ≡ registerAt m k) ⌝ }
 {
     if 15 < k {

@@ -1,5 +1,5 @@
 -- What soundness says of a register's sub-shares.
-use Prim.Native.Nat.{ℕ, _+_, _%_, _<_, _≤_, _^_}
+use Prim.Native.Nat.{ℕ, _+_, _%_, _≤_, _^_}
 use mathlib.Core.Bool.{Bool, false, true, _&&_}
 use mathlib.Core.Path.{_≡_, refl}
 use native.Mathlib.Nat.{mod-add-mod}
@@ -9,7 +9,8 @@ use Rattle.ring.specs.Rings.{modulusOf}
 use Rattle.ring.specs.declared.rings.Ring.{Ring}
 use Rattle.gate.specs.Places.{InRange, total}
 use Rattle.gate.specs.declared.sharing.Sharing.{Sharing}
-use Rattle.machine.specs.Registers.{sharesBelow, soundRegister}
+use Rattle.machine.specs.Checks.{isNumber}
+use Rattle.machine.specs.Registers.{Kind, bits, empty, number, ringAt, sharesBelow, soundRegister}
 use Rattle.machine.specs.Step.{valueOf}
 use Rattle.machine.specs.declared.registers.Register.{Register}
 use Rattle.machine.specs.declared.registers.Register.the-variants.{Bits, Number}
@@ -46,6 +47,12 @@ module _ (a : Register) (sound : soundRegister a ≡ true) where
         shares-below (2 ^ l) x (right-true (leb l 59) (sharesBelow (2 ^ l) x) rest),
       )
 
+-- a number is of its ring
+pub number-kind : (k : Kind) → isNumber k ≡ true → k ≡ number (ringAt k)
+number-kind empty h = cc
+number-kind (number r) h = refl
+number-kind (bits l) h = cc
+
 -- the total of a number, from two sums modulo p
 pub number-value : {a : Register} (r : Ring) (x : Sharing) {half v : ℕ} → a ≡ Number r x
     → half ≡ (x .s0 + x .s1) % modulusOf r
@@ -53,7 +60,3 @@ pub number-value : {a : Register} (r : Ring) (x : Sharing) {half v : ℕ} → a 
     → v ≡ valueOf a
 unfolding total
 number-value r x e h k = rw (e, k, h) (mod-add-mod (x .s0 + x .s1) (modulusOf r) (x .s2))
-
--- no test is both
-pub never-both : {A : Type 0} {b : Bool} {v w : A} → b ≡ false → b ≡ true → v ≡ w
-never-both h k = cc

@@ -6,6 +6,7 @@ use lib.Dec.{leb, ltb}
 use lib.ListN.{getD, replicate, set}
 use Rattle.ring.specs.Rings.{modulusOf, widthOf}
 use Rattle.ring.specs.declared.rings.Ring.{Ring}
+use Rattle.ring.specs.declared.rings.Ring.the-variants.{R13}
 use Rattle.gate.specs.declared.sharing.Sharing.{Sharing}
 use Rattle.circuit.specs.Sharings.{zeros}
 use Rattle.machine.specs.declared.registers.Machine.{Machine}
@@ -35,12 +36,19 @@ registerOf empty x = Empty
 registerOf (number r) x = Number r x
 registerOf (bits l) x = Bits l x
 
--- e of a number, l of bits
+-- e of a number
 abbrev pub widthAt : Kind → ℕ
 widthAt empty = 0
 widthAt (number r) = widthOf r
 widthAt (bits l) = 0
 
+-- the ring of a number, R13 where there is none
+abbrev pub ringAt : Kind → Ring
+ringAt empty = R13
+ringAt (number r) = r
+ringAt (bits l) = R13
+
+-- l of bits
 abbrev pub countAt : Kind → ℕ
 countAt empty = 0
 countAt (number r) = 0

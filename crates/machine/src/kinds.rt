@@ -3,7 +3,7 @@ ghost use mathlib.Core.Bool.{true};
 ghost use mathlib.Core.Path.{_≡_};
 ghost use Rattle.ring.specs.Rings.{modulus};
 ghost use Rattle.machine.specs.Checks.{isBits, isEmpty, isNumber};
-ghost use Rattle.machine.specs.Registers.{countAt, kindOf, number, registerOf, sharesOf, soundRegister, widthAt};
+ghost use Rattle.machine.specs.Registers.{countAt, kindOf, registerOf, ringAt, sharesOf, soundRegister, widthAt};
 ghost use Rattle.machine.specs.Step.{valueOf};
 use crate::registers::Register;
 use gate::Sharing;
@@ -40,9 +40,9 @@ impl Register {
         }
     }
 
-    // The ring of a number.
+    // The ring of a number, else R13.
     pub fn ring(self) -> Ring
-        ensures { λ r. ⌜ (isNumber (kindOf self) ≡ true → kindOf self ≡ number r) ⌝ }
+        ensures { λ r. ⌜ r ≡ ringAt (kindOf self) ⌝ }
     {
         match self {
             Register::Empty => Ring::R13,

@@ -1,6 +1,6 @@
 -- Orders 2 to 8, each from its verdict and its sources as the code finds them.
 use Prim.Native.Nat.{ℕ, _-_, _<_}
-use mathlib.Core.Bool.{Bool, cond, false, not, true, _&&_, _||_}
+use mathlib.Core.Bool.{Bool, false, not, true, _&&_, _||_}
 use mathlib.Core.List.{List, [], _∷_, _++_}
 use mathlib.Core.Path.{_≡_, refl, ap, sym, _∙_}
 use borrow.Author.Tests.{eqb-true, leb-false, leb-true, not-false}
@@ -9,20 +9,20 @@ use Rattle.ring.specs.Rings.{modulus, modulusOf, ringOf, widthOf}
 use Rattle.ring.specs.declared.rings.OfWidth.{OfWidth}
 use Rattle.ring.specs.declared.rings.OfWidth.the-variants.{Named, NoRing}
 use Rattle.ring.specs.declared.rings.Ring.{Ring}
-use Rattle.ring.specs.declared.rings.Ring.the-variants.{R13, R31, R61}
+use Rattle.ring.proofs.RangeLaw.{width-named}
 use Rattle.gate.specs.Places.{InRange}
 use Rattle.gate.specs.declared.sharing.Sharing.{Sharing}
 use Rattle.circuit.specs.Circuits.{ends, result}
 use Rattle.circuit.specs.Orders.{addition, composition, conversion, decomposition, multiplication, scaling, shifting}
 use Rattle.machine.specs.Checks.{Check, aNumber, anyAbove15, check, firstMet, isBits, isEmpty, isNumber, kindChecks, named, noRing, twoNumbers}
-use Rattle.machine.specs.Registers.{Kind, bits, countAt, empty, kindAt, kindOf, number, publicOf, registerAt, sharesOf, sound, widthAt}
+use Rattle.machine.specs.Registers.{Kind, bits, countAt, empty, kindAt, kindOf, number, publicOf, registerAt, ringAt, sharesOf, sound, widthAt}
 use Rattle.machine.specs.Work.{adjusts, computes, numberKind}
 use Rattle.machine.specs.declared.orders.Order.{Order}
 use Rattle.machine.specs.declared.orders.Order.the-variants.{Add, Compose, Convert, Decompose, Multiply, Scale, Shift}
 use Rattle.machine.specs.declared.registers.Machine.{Machine}
 use Rattle.machine.specs.declared.registers.Register.{Register}
 use Rattle.machine.specs.declared.registers.Register.the-variants.{Number}
-use Rattle.machine.proofs.KindLaw.{left-true, right-true}
+use Rattle.machine.proofs.KindLaw.{left-true, number-kind, right-true}
 use Rattle.order.specs.Attempts.{Prepares, Sources, beginChecks, kindly}
 use Rattle.order.specs.Tasks.{addedTo, scaledBy}
 use Rattle.order.specs.declared.tasks.Prepared.the-variants.{Gates, Local}
@@ -31,22 +31,14 @@ use Rattle.order.proofs.KindlyLaw.{unmet, unmet-rest}
 use Rattle.order.proofs.SoundLaw.{few-bits, in-width, is-bits, is-number, kind-at, one-false, other-false, seated}
 use Rattle.order.proofs.StepLaw.{gated, locally}
 
--- the width of a ring that is named
-pub width-named : (f : ℕ) {g : Ring} → ringOf f ≡ Named g → f ≡ widthOf g
-unfolding ringOf
-width-named f {g} e = go (eqb f 13) (eqb f 31) (eqb f 61) refl refl refl e
-  where
-    go : (a b c : Bool) → eqb f 13 ≡ a → eqb f 31 ≡ b → eqb f 61 ≡ c
-        → cond a (Named R13) (cond b (Named R31) (cond c (Named R61) NoRing)) ≡ Named g → f ≡ widthOf g
-    go true b c h k l e = let q : R13 ≡ g = cc in eqb-true f 13 h ∙ ap widthOf q
-    go false true c h k l e = let q : R31 ≡ g = cc in eqb-true f 31 k ∙ ap widthOf q
-    go false false true h k l e = let q : R61 ≡ g = cc in eqb-true f 61 l ∙ ap widthOf q
-    go false false false h k l e = cc
-
 bits-kind : (k : Kind) → isBits k ≡ true → k ≡ bits (countAt k)
 bits-kind empty h = cc
 bits-kind (number r) h = cc
 bits-kind (bits l) h = refl
+
+ring-kind : (w : OfWidth) → noRing w ≡ false → w ≡ Named (ringAt (numberKind w))
+ring-kind (Named r) h = refl
+ring-kind NoRing h = cc
 
 both-numbers : (k l : Kind) → firstMet (twoNumbers k l) ≡ 0 → (isNumber k ≡ true) × (isNumber l ≡ true) × (widthAt k ≡ widthAt l)
 both-numbers k l fine =
@@ -89,17 +81,17 @@ module _ (m : Machine) where
     later : firstMet more ≡ 0
     later = unmet-rest (isBits (kindAt (publicOf m) x)) 4 more refl (unmet-rest (isEmpty (kindAt (publicOf m) x)) 3 _ refl fine)
 
-    number-at : {a : Register} {r : Ring} → a ≡ registerAt m x → (isNumber (kindOf a) ≡ true → kindOf a ≡ number r) → kindAt (publicOf m) x ≡ number r
+    number-at : {a : Register} {r : Ring} → a ≡ registerAt m x → r ≡ ringAt (kindOf a) → kindAt (publicOf m) x ≡ number r
     number-at at ring =
         let k = kindAt (publicOf m) x in
         let e = kind-of x at in
         let full = unmet (isEmpty k) 3 _ refl fine in
         let whole = unmet (isBits k) 4 more refl (unmet-rest (isEmpty k) 3 _ refl fine) in
-        sym e ∙ ring (ap isNumber e ∙ is-number k full whole)
+        number-kind k (is-number k full whole) ∙ ap number (ap ringAt (sym e) ∙ sym ring)
 
     -- and its sub-shares, in range
     source-in : {a : Register} {r : Ring} {s : Sharing} → sound m ≡ true → a ≡ registerAt m x
-        → (isNumber (kindOf a) ≡ true → kindOf a ≡ number r) → s ≡ sharesOf a → InRange (modulusOf r) s
+        → r ≡ ringAt (kindOf a) → s ≡ sharesOf a → InRange (modulusOf r) s
     source-in {r = r} sure at ring shares = ranged x sure (number-at at ring) at shares
 
   pub decompose-kindly : (d x l : ℕ) {s : Bool} {a : Register} {w most v : ℕ} → Sources m s x a x a → w ≡ widthAt (kindOf a) → most ≡ w - 2
@@ -109,7 +101,7 @@ module _ (m : Machine) where
   decompose-kindly d x l of wide most e = rw (most, wide, kind-of x (of .first), of .sound) at e
 
   pub decompose-prepares : (d x l : ℕ) {a : Register} {r : Ring} {s : Sharing} → kindly (Decompose d x l) m ≡ 0 → a ≡ registerAt m x
-      → (isNumber (kindOf a) ≡ true → kindOf a ≡ number r) → s ≡ sharesOf a → Prepares (Decompose d x l) m d (Gates (task.Decompose r s l))
+      → r ≡ ringAt (kindOf a) → s ≡ sharesOf a → Prepares (Decompose d x l) m d (Gates (task.Decompose r s l))
   decompose-prepares d x l {a} {r} {s} fine at ring shares =
       let o = Decompose d x l in
       let k = kindAt (publicOf m) x in
@@ -134,7 +126,7 @@ module _ (m : Machine) where
   shift-kindly d x n of wide most e = rw (most, wide, kind-of x (of .first), of .sound) at e
 
   pub shift-prepares : (d x s : ℕ) {a : Register} {r : Ring} {z : Sharing} → kindly (Shift d x s) m ≡ 0 → a ≡ registerAt m x
-      → (isNumber (kindOf a) ≡ true → kindOf a ≡ number r) → z ≡ sharesOf a → Prepares (Shift d x s) m d (Gates (task.Shift r z s))
+      → r ≡ ringAt (kindOf a) → z ≡ sharesOf a → Prepares (Shift d x s) m d (Gates (task.Shift r z s))
   shift-prepares d x s {a} {r} {z} fine at ring shares =
       let o = Shift d x s in
       let k = kindAt (publicOf m) x in
@@ -158,14 +150,14 @@ module _ (m : Machine) where
   convert-kindly d x f of e h = rw (e, kind-of x (of .first), of .sound) at h
 
   pub convert-prepares : (d x f : ℕ) {a : Register} {r g : Ring} {s : Sharing} → kindly (Convert d x f) m ≡ 0 → a ≡ registerAt m x
-      → (isNumber (kindOf a) ≡ true → kindOf a ≡ number r) → (noRing (ringOf f) ≡ false → ringOf f ≡ Named g)
+      → r ≡ ringAt (kindOf a) → g ≡ ringAt (numberKind (ringOf f))
       → s ≡ sharesOf a → Prepares (Convert d x f) m d (Gates (task.Convert r g s))
   convert-prepares d x f {a} {r} {g} {s} fine at ring other shares =
       let o = Convert d x f in
       let sure = good o fine in
       let more = check (noRing (ringOf f)) 5 ∷ [] in
       let kind = number-at x more (kinds o fine) at ring in
-      let named = other (unmet (noRing (ringOf f)) 5 [] refl (later x more (kinds o fine))) in
+      let named = ring-kind (ringOf f) (unmet (noRing (ringOf f)) 5 [] refl (later x more (kinds o fine))) ∙ ap Named (sym other) in
       let same = ap sharesOf (sym at) ∙ sym shares in
       gated o m d x x (task.Convert r g s) fine
       (ap (λ (k : Kind). computes (conversion (widthAt k) f) d x x (numberKind (ringOf f))) kind
@@ -181,7 +173,7 @@ module _ (m : Machine) where
   scale-kindly d x c of e h = rw (e, kind-of x (of .first), of .sound) at h
 
   module _ (d x c : ℕ) {a : Register} {r : Ring} {s : Sharing} (fine : kindly (Scale d x c) m ≡ 0) (at : a ≡ registerAt m x)
-      (ring : isNumber (kindOf a) ≡ true → kindOf a ≡ number r) (shares : s ≡ sharesOf a) where
+      (ring : r ≡ ringAt (kindOf a)) (shares : s ≡ sharesOf a) where
     scaled-kind : kindAt (publicOf m) x ≡ number r
     scaled-kind = number-at x _ (kinds (Scale d x c) fine) at ring
 
@@ -215,15 +207,14 @@ module _ (m : Machine) where
       (sure : sound m ≡ true)
       (fine : firstMet (twoNumbers (kindAt (publicOf m) x) (kindAt (publicOf m) y)) ≡ 0)
       (left : a ≡ registerAt m x) (right : b ≡ registerAt m y)
-      (ring : isNumber (kindOf a) ≡ true → kindOf a ≡ number r) (shares : s ≡ sharesOf a) (others : t ≡ sharesOf b) where
+      (ring : r ≡ ringAt (kindOf a)) (shares : s ≡ sharesOf a) (others : t ≡ sharesOf b) where
     numbers : (isNumber (kindAt (publicOf m) x) ≡ true) × (isNumber (kindAt (publicOf m) y) ≡ true)
         × (widthAt (kindAt (publicOf m) x) ≡ widthAt (kindAt (publicOf m) y))
     numbers = both-numbers (kindAt (publicOf m) x) (kindAt (publicOf m) y) fine
 
     pair-kind : kindAt (publicOf m) x ≡ number r
     pair-kind =
-        let e = kind-of x left in
-        sym e ∙ ring (ap isNumber e ∙ numbers .0)
+        number-kind (kindAt (publicOf m) x) (numbers .0) ∙ ap number (ap ringAt (sym (kind-of x left)) ∙ sym ring)
 
     pair-left : InRange (modulusOf r) s
     pair-left = ranged x sure pair-kind left shares
@@ -236,7 +227,7 @@ module _ (m : Machine) where
         rw (others, right) (rw (own, e) at (in-width m sure y (ap isNumber own ∙ numbers .1)))
 
   module _ (d x y : ℕ) {a b : Register} {r : Ring} {s t : Sharing} (left : a ≡ registerAt m x) (right : b ≡ registerAt m y)
-      (ring : isNumber (kindOf a) ≡ true → kindOf a ≡ number r) (shares : s ≡ sharesOf a) (others : t ≡ sharesOf b) where
+      (ring : r ≡ ringAt (kindOf a)) (shares : s ≡ sharesOf a) (others : t ≡ sharesOf b) where
     pub add-sources : kindly (Add d x y) m ≡ 0 → InRange (modulusOf r) s × InRange (modulusOf r) t
     add-sources fine =
         let o = Add d x y in (
@@ -274,7 +265,7 @@ module _ (m : Machine) where
   compose-kindly d x f of e h = rw (e, kind-of x (of .first), of .sound) at h
 
   pub compose-prepares : (d x f : ℕ) {a : Register} {g : Ring} {s : Sharing} {l : ℕ} → kindly (Compose d x f) m ≡ 0 → a ≡ registerAt m x
-      → (noRing (ringOf f) ≡ false → ringOf f ≡ Named g) → s ≡ sharesOf a → l ≡ countAt (kindOf a)
+      → g ≡ ringAt (numberKind (ringOf f)) → s ≡ sharesOf a → l ≡ countAt (kindOf a)
       → Prepares (Compose d x f) m d (Gates (task.Compose g s l))
   compose-prepares d x f {a} {g} {s} {l} fine at other shares count =
       let o = Compose d x f in
@@ -283,7 +274,7 @@ module _ (m : Machine) where
       let full = unmet (isEmpty k) 3 _ refl (kinds o fine) in
       let rest = unmet-rest (isEmpty k) 3 _ refl (kinds o fine) in
       let last = unmet-rest (isNumber k) 4 _ refl rest in
-      let named = other (unmet (noRing (ringOf f)) 5 [] refl last) in
+      let named = ring-kind (ringOf f) (unmet (noRing (ringOf f)) 5 [] refl last) ∙ ap Named (sym other) in
       let counted : countAt k ≡ l = ap countAt (sym (kind-of x at)) ∙ sym count in
       let kind : k ≡ bits l = bits-kind k (is-bits k full (unmet (isNumber k) 4 _ refl rest)) ∙ ap bits counted in
       let same = ap sharesOf (sym at) ∙ sym shares in

@@ -1,13 +1,10 @@
 -- 01, "The nine orders": orders 2 to 8 once their sources are found.
 use Prim.Native.Nat.{ℕ, _+_, _*_, _-_, _%_, _≤_, _<_}
-use mathlib.Core.List.{_++_}
-use mathlib.Core.Path.{_≡_}
-use lib.ListN.{replicate}
 use Rattle.ring.specs.Rings.{modulusOf, widthOf}
 use Rattle.ring.specs.declared.rings.Ring.{Ring}
 use Rattle.gate.specs.Places.{InRange}
 use Rattle.gate.specs.declared.sharing.Sharing.{Sharing}
-use Rattle.circuit.specs.Circuits.{Circuit, moduli}
+use Rattle.circuit.specs.Circuits.{Circuit}
 use Rattle.circuit.specs.Orders.{composition, conversion, decomposition, multiplication, shifting}
 use Rattle.machine.specs.Registers.{Kind, bits, million, number}
 use Rattle.machine.specs.declared.registers.Machine.{Machine}
@@ -76,10 +73,13 @@ Fit (Compose f w l) = l ≤ 59
 abbrev pub costing : ℕ → ℕ → Ring → Cost
 costing b n r = record { bits = b; ring = n; modulus = modulusOf r }
 
--- the gates on bits, then those in the ring of that modulus
-pub record Costs (t : Task) (k : Cost) : Type 0 where
-  pub moduli : moduli (circuitOf t .gates) ≡ replicate (k .bits) 2 ++ replicate (k .ring) (k .modulus)
-  pub few : k .bits + k .ring ≤ 296
+-- the gates of a task on bits, then those in the ring of a modulus: "3l + 1 gates", "Five gates", "3(e-2) + 1 + 2(e-2-s) gates", "two gates a bit"
+abbrev pub costOf : Task → Cost
+costOf (Multiply r x y) = costing 0 1 r
+costOf (Decompose r a l) = costing (3 * l + 1) 0 r
+costOf (Convert e f a) = costing 1 4 f
+costOf (Shift r a s) = costing (3 * (widthOf r - 2) + 1) (2 * (widthOf r - 2 - s)) r
+costOf (Compose f w l) = costing 0 (2 * l) f
 
 -- a destination below 16, and positions with room to rise
 pub record Seated (m : Machine) (d : ℕ) : Type 0 where

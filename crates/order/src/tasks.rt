@@ -1,7 +1,7 @@
 // Orders 4 to 8 once their sources are found.
 ghost use mathlib.Core.Path.{_≡_};
 ghost use Rattle.machine.specs.Registers.{registerOf};
-ghost use Rattle.order.specs.Tasks.{Costs, Fit, costing, kindLeft};
+ghost use Rattle.order.specs.Tasks.{Fit, costOf, costing, kindLeft};
 use gate::Sharing;
 use machine::Refusal;
 use machine::Register;
@@ -33,7 +33,7 @@ pub struct Cost {
 impl Task {
     pub fn cost(self) -> Cost
         requires { ⌜ Fit self ⌝ }
-        ensures { λ k. ⌜ Costs self k ⌝ }
+        ensures { λ k. ⌜ k ≡ costOf self ⌝ }
     {
         match self {
             Task::Multiply(r, _, _) => costing(0, 1, r),

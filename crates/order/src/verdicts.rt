@@ -1,5 +1,4 @@
 // The checks that orders share.
-ghost use mathlib.Core.Bool.{false};
 ghost use mathlib.Core.List.{[], _∷_, _++_};
 ghost use mathlib.Core.Path.{_≡_};
 ghost use Prim.Native.Nat.{_+_, _-_};
@@ -7,7 +6,8 @@ ghost use lib.Dec.{ltb};
 ghost use Rattle.gate.specs.Places.{three};
 ghost use Rattle.ring.specs.Rings.{ringOf};
 ghost use Rattle.machine.specs.Checks.{aNumber, check, firstMet, isEmpty, isNumber, noRing, twoNumbers, uneven};
-ghost use Rattle.machine.specs.Registers.{kindOf};
+ghost use Rattle.machine.specs.Registers.{kindOf, ringAt};
+ghost use Rattle.machine.specs.Work.{numberKind};
 ghost use Rattle.order.specs.Answers.{numberOf, verdictOf};
 ghost use Rattle.order.specs.Attempts.{beginChecks};
 use crate::answers::Verdict;
@@ -83,9 +83,9 @@ pub fn less(a: u64, b: u64) -> u64
     a - b
 }
 
-// The ring of a width that names one.
+// The ring of a width that names one, else R13.
 pub fn ring_named(e: u64) -> Ring
-    ensures { λ r. ⌜ (noRing (ringOf e) ≡ false → ringOf e ≡ OfWidth.Named r) ⌝ }
+    ensures { λ r. ⌜ r ≡ ringAt (numberKind (ringOf e)) ⌝ }
 {
     let w = Ring::of_width(e);
     match w {

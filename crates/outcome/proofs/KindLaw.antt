@@ -1,19 +1,19 @@
 -- What each accepted order leaves, by the kinds of its sources: sub-shares in range, and their value.
 use Prim.Native.Nat.{ℕ, _+_, _*_, _-_, _/_, _%_, _<_, _≤_, _^_}
-use mathlib.Core.Bool.{Bool, and-eq-true-iff, cond, false, not, true, true≢false, _&&_, _||_}
+use mathlib.Core.Bool.{and-eq-true-iff, false, not, true≢false, _&&_, _||_}
 use mathlib.Core.List.{List, [], _∷_, _++_}
 use mathlib.Core.Path.{_≡_, refl, sym, _∙_}
 use native.Mathlib.Nat.{mod-eq-of-lt}
 use native.Mathlib.Omega.{arith}
-use lib.Dec.{eqb, leb}
+use lib.Dec.{leb}
 use borrow.Author.Tests.{eqb-true, leb-false, leb-true, lt-leb, not-false}
 use Rattle.ring.specs.Modular.{diff}
 use Rattle.ring.specs.Rings.{modulus, quarter, ringOf, widthOf}
+use Rattle.ring.specs.declared.rings.OfWidth.{OfWidth}
 use Rattle.ring.specs.declared.rings.OfWidth.the-variants.{Named, NoRing}
 use Rattle.ring.specs.declared.rings.Ring.{Ring}
-use Rattle.ring.specs.declared.rings.Ring.the-variants.{R13, R31, R61}
 use Rattle.ring.proofs.CongLaw.{cong-add, cong-of-eq, cong-refl, cong-trans, diff-add, diff-lt}
-use Rattle.ring.proofs.RangeLaw.{width-ge, width-le}
+use Rattle.ring.proofs.RangeLaw.{width-ge, width-le, width-named}
 use Rattle.gate.specs.Places.{Below, Place, parts, total}
 use Rattle.gate.proofs.PlaceLaw.{each}
 use Rattle.circuit.specs.Bits.{exclusive}
@@ -61,16 +61,11 @@ a-number (bits l) h b = absurd (true≢false b)
 
 -- the ring of a width that has one
 ring-of : (e : ℕ) → noRing (ringOf e) ≡ false → NumberOf (numberKind (ringOf e)) e
-unfolding ringOf
-ring-of e = go (eqb e 13) (eqb e 31) (eqb e 61) (eqb-true e 13) (eqb-true e 31) (eqb-true e 61)
+ring-of e = go (ringOf e) refl
   where
-    go : (a b c : Bool) → (a ≡ true → e ≡ 13) → (b ≡ true → e ≡ 31) → (c ≡ true → e ≡ 61)
-        → noRing (cond a (Named R13) (cond b (Named R31) (cond c (Named R61) NoRing))) ≡ false
-        → NumberOf (numberKind (cond a (Named R13) (cond b (Named R31) (cond c (Named R61) NoRing)))) e
-    go true b c f g h k = record { ring = R13; is = refl; width = sym (f refl) }
-    go false true c f g h k = record { ring = R31; is = refl; width = sym (g refl) }
-    go false false true f g h k = record { ring = R61; is = refl; width = sym (h refl) }
-    go false false false f g h k = absurd (true≢false k)
+    go : (w : OfWidth) → ringOf e ≡ w → noRing w ≡ false → NumberOf (numberKind w) e
+    go (Named r) is h = record { ring = r; is = refl; width = sym (width-named e is) }
+    go NoRing is h = absurd (true≢false h)
 
 -- 0 is below the modulus of every ring
 pub zero-below : (e : ℕ) → noRing (ringOf e) ≡ false → leb (modulus e) 0 ≡ false

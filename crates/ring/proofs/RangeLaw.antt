@@ -1,25 +1,18 @@
 -- The three rings' numbers fit a word with room: what callers need of a modulus they know by its ring.
 use Prim.Native.Nat.{ℕ, _+_, _*_, _/_, _<_, _≤_, _^_}
-use mathlib.Core.Path.{_≡_, refl}
+use mathlib.Core.Bool.{Bool, cond, false, true}
+use mathlib.Core.Path.{_≡_, refl, ap, _∙_}
 use native.Mathlib.Omega.{arith}
-use lib.Dec.{lit<, lit≤}
+use borrow.Author.Tests.{eqb-true}
+use lib.Dec.{eqb, lit≤}
 use lib.Pow.{pow-mono}
-use Rattle.ring.specs.Rings.{modulus, modulusOf, widthOf}
+use Rattle.ring.specs.Rings.{modulus, modulusOf, quarterOf, ringOf, widthOf}
+use Rattle.ring.specs.declared.rings.OfWidth.the-variants.{Named, NoRing}
 use Rattle.ring.specs.declared.rings.Ring.{Ring}
 use Rattle.ring.specs.declared.rings.Ring.the-variants.{R13, R31, R61}
+use Rattle.ring.proofs.Theorems.{modulus-suc, quarter-below}
 
-pub modulus-lt : (r : Ring) → modulusOf r < 2 ^ 61
-unfolding modulus
-modulus-lt R13 = lit< tt
-modulus-lt R31 = lit< tt
-modulus-lt R61 = lit< tt
-
-pub modulus-gt : (r : Ring) → 2 ^ 12 < modulusOf r
-unfolding modulus
-modulus-gt R13 = lit< tt
-modulus-gt R31 = lit< tt
-modulus-gt R61 = lit< tt
-
+-- what is known of the three widths
 pub width-le : (r : Ring) → widthOf r ≤ 61
 width-le R13 = lit≤ tt
 width-le R31 = lit≤ tt
@@ -34,6 +27,28 @@ pub width-odd : (r : Ring) → 2 * (widthOf r / 2) + 1 ≡ widthOf r
 width-odd R13 = refl
 width-odd R31 = refl
 width-odd R61 = refl
+
+-- the width of a ring that is named
+pub width-named : (e : ℕ) {r : Ring} → ringOf e ≡ Named r → e ≡ widthOf r
+unfolding ringOf
+width-named e {r} named = go (eqb e 13) (eqb e 31) (eqb e 61) refl refl refl named
+  where
+    go : (a b c : Bool) → eqb e 13 ≡ a → eqb e 31 ≡ b → eqb e 61 ≡ c
+        → cond a (Named R13) (cond b (Named R31) (cond c (Named R61) NoRing)) ≡ Named r → e ≡ widthOf r
+    go true b c h k l named = let q : R13 ≡ r = cc in eqb-true e 13 h ∙ ap widthOf q
+    go false true c h k l named = let q : R31 ≡ r = cc in eqb-true e 31 k ∙ ap widthOf q
+    go false false true h k l named = let q : R61 ≡ r = cc in eqb-true e 61 l ∙ ap widthOf q
+    go false false false h k l named = cc
+
+-- and what follows from that
+pub modulus-lt : (r : Ring) → modulusOf r < 2 ^ 61
+modulus-lt r = omega (arith, modulus-suc (widthOf r), pow-mono {i = widthOf r} {j = 61} (width-le r))
+
+pub modulus-gt : (r : Ring) → 2 ^ 12 < modulusOf r
+modulus-gt r = omega (arith, modulus-suc (widthOf r), pow-mono {i = 13} {j = widthOf r} (width-ge r))
+
+pub quarter-lt : (r : Ring) → quarterOf r < modulusOf r
+quarter-lt r = quarter-below (widthOf r) (omega (arith, width-ge r))
 
 -- what the arithmetic on numbers asks of k = e / 2 and p
 pub record Halved (k p : ℕ) : Type 0 where

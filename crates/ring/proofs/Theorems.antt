@@ -58,6 +58,11 @@ quarter-inverts e h =
     let one : 1 < modulus e = omega arith in
     (cong-trans (cong-of-eq e₁) (cong-multiple (modulus e) 1 1)) .same ∙ mod-eq-of-lt one
 
+-- which is a number of the ring
+pub quarter-below : (e : ℕ) → 2 ≤ e → quarter e < modulus e
+unfolding quarter
+quarter-below e h = omega (arith, four-quarters e h, modulus-suc e, pow-pos (e - 2))
+
 -- the columns of a product of two-digit numbers at base 2L, where the middle one is cut at L
 columns : (L a₁ a₀ b₁ b₀ m₁ m₀ : ℕ)
     → a₁ * b₀ + a₀ * b₁ ≡ m₁ * L + m₀

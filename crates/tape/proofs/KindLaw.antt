@@ -1,20 +1,13 @@
 -- What each ring code asks for.
-use Prim.Native.Nat.{ℕ, _<_}
+use Prim.Native.Nat.{ℕ}
 use mathlib.Core.Path.{_≡_}
 use mathlib.Core.List.{List}
 use borrow.Author.Tests.{eq-eqb, ne-eqb}
-use lib.Dec.{lit<}
 use lib.ListN.{length}
 use Rattle.ring.specs.declared.rings.OfWidth.the-variants.{Named, NoRing}
 use Rattle.ring.specs.declared.rings.Ring.{Ring}
-use Rattle.ring.specs.declared.rings.Ring.the-variants.{R13, R31, R61}
 use Rattle.ring.specs.Rings.{modulusOf, ringOf, widthOf}
 use Rattle.tape.specs.Tapes.{fill, kindOf, prepared, refused, settled}
-
-pub width-below : (r : Ring) → widthOf r < 64
-width-below R13 = lit< tt
-width-below R31 = lit< tt
-width-below R61 = lit< tt
 
 module _ (code : ℕ) (raw run : List ℕ) where
   pub bits-asked : code ≡ 1 → prepared code raw run ≡ settled run (fill 1 2 (length run) 0 raw)

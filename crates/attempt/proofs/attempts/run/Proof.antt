@@ -3,6 +3,7 @@ use Prim.Native.Nat.{ℕ, _+_}
 use native.Mathlib.Omega.{arith}
 use borrow.Author.Needs.{needs}
 use Rattle.circuit.proofs.LentLaw.{long-on}
+use Rattle.order.proofs.CostLaw.{costs}
 use Rattle.attempt.proofs.AttemptLaw.{bad-tried, gates-tried}
 use Rattle.attempt.proofs.SupplyLaw.{supplied}
 use Rattle.attempt.proofs.attempts.run.Statement.{statement}
@@ -16,7 +17,7 @@ refusal c = λ m of seat.
     let known = c .before in
     let start = entry known in
     let a = start .args in
-    bad-tried (a .t) (a .d) (start .pre .1 .0) of (a .m0 .now) (a .m1 .now) (a .m2 .now) (a .c0 .now) (a .c1 .now) (a .c2 .now)
+    bad-tried (a .t) (a .d) (costs (a .t) (start .pre .0) (start .pre .1 .0)) of (a .m0 .now) (a .m1 .now) (a .m2 .now) (a .c0 .now) (a .c1 .now) (a .c2 .now)
     (known .bad-items .ensures) (c .if1 .taken)
 
 fits : tie.Need-words-requires
@@ -26,7 +27,7 @@ fits c κs =
     let a = start .args in
     let n : ℕ = a .k .bits + a .k .ring in (
       start .pre .0,
-      supplied (start .pre .0) (start .pre .1 .0) (long-on n (a .masks-at) (start .pre .1 .1 .0))
+      supplied (a .t) (start .pre .1 .0) (long-on n (a .masks-at) (start .pre .1 .1 .0))
           (long-on n (a .channels-at) (start .pre .1 .1 .1)) (known .bad-items .ensures) (c .before .before .before .if1 .left),
     )
 
@@ -36,12 +37,14 @@ done c = λ m of seat.
     let known = called .before .before .before .before .before in
     let start = entry known in
     let a = start .args in
-    gates-tried (a .t) (a .d) (start .pre .1 .0) of (a .m0 .now) (a .m1 .now) (a .m2 .now) (a .c0 .now) (a .c1 .now) (a .c2 .now)
+    gates-tried (a .t) (a .d) (costs (a .t) (start .pre .0) (start .pre .1 .0)) of (a .m0 .now) (a .m1 .now) (a .m2 .now) (a .c0 .now) (a .c1 .now) (a .c2 .now)
     (known .bad-items .ensures) (called .before .before .before .before .if1 .left) seat
     (called .words .ensures) (c .left .ensures)
 
 counted : tie.Need-add-gates
-counted c = omega (arith, entry (c .before .before .before .before .before .before .before .before .before .before .before .before) .pre .1 .0 .few)
+counted c =
+    let start = entry (c .before .before .before .before .before .before .before .before .before .before .before .before) in
+    omega (arith, costs (start .args .t) (start .pre .0) (start .pre .1 .0) .few)
 
 pub run-spec : {M : Type 1} → statement M
 run-spec =

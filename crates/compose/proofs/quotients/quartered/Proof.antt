@@ -1,7 +1,8 @@
 -- All is modulo p'.
 use native.Mathlib.Omega.{arith}
 use borrow.Author.Needs.{needs}
-use Rattle.compose.proofs.ShareLaw.{quarter-lt, quartered-is, reduced-lt}
+use Rattle.ring.proofs.RangeLaw.{quarter-lt}
+use Rattle.compose.proofs.ShareLaw.{quartered-is, reduced-lt}
 use Rattle.compose.proofs.quotients.quartered.Statement.{statement}
 use Rattle.compose.proofs.quotients.quartered.Tie as tie
 

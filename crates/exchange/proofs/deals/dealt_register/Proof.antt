@@ -2,7 +2,7 @@ use mathlib.Core.Path.{_≡_, ap, sym, _∙_}
 use borrow.Author.Needs.{needs}
 use Rattle.ring.specs.Rings.{modulus, modulusOf, ringOf}
 use Rattle.ring.specs.declared.rings.OfWidth.the-variants.{Named}
-use Rattle.order.proofs.PrepareLaw.{width-named}
+use Rattle.ring.proofs.RangeLaw.{width-named}
 use Rattle.exchange.proofs.DealLaw.{dealt-none, dealt-number}
 use Rattle.exchange.proofs.deals.dealt_register.Statement.{statement}
 use Rattle.exchange.proofs.deals.dealt_register.Tie as tie

@@ -1,15 +1,16 @@
 use mathlib.Core.Path.{ap, sym, _∙_}
 use borrow.Author.Needs.{needs}
-use Rattle.machine.specs.Checks.{noRing}
-use Rattle.machine.proofs.KindLaw.{never-both}
+use Rattle.ring.specs.declared.rings.OfWidth.{OfWidth}
+use Rattle.machine.specs.Registers.{ringAt}
+use Rattle.machine.specs.Work.{numberKind}
 use Rattle.order.proofs.verdicts.ring_named.Statement.{statement}
 use Rattle.order.proofs.verdicts.ring_named.Tie as tie
 
 named : tie.Need-returns
-named c h = sym (c .before .before .before .of-width .ensures) ∙ c .before .w .given .1
+named c = ap (λ (w : OfWidth). ringAt (numberKind w)) (sym (c .before .w .given .1) ∙ c .before .before .before .of-width .ensures)
 
 none : tie.Need-returns-2
-none c h = never-both h (ap noRing (sym (c .before .before .of-width .ensures) ∙ c .enum-told .given .1))
+none c = ap (λ (w : OfWidth). ringAt (numberKind w)) (sym (c .enum-told .given .1) ∙ c .before .before .of-width .ensures)
 
 pub ring-named-spec : {M : Type 1} → statement M
 ring-named-spec =

@@ -44,11 +44,11 @@ module _ (c : tie.After-register-at2) where
       found-in m (begun .args .o) words says is (first .before .source .ensures) (first .register-at .ensures m says)
       (c .before .other .ensures) (c .register-at2 .ensures m says)
 
-long : tie.Need-register-at-requires
-long c κs = says-length (start (c .before) .pre .1)
+said : tie.Need-register-at-requires
+said c κs = let given = start (c .before) .pre in (given .0, given .1)
 
-long-other : tie.Need-register-at-requires-2
-long-other c κs = says-length (start (c .before .before .before .before) .pre .1)
+said-other : tie.Need-register-at-requires-2
+said-other c κs = let given = start (c .before .before .before .before) .pre in (given .0, given .1)
 
 masks-there : tie.Need-slice-read-t22
 masks-there c = let n = says-length (begun (c .before) .pre .1) in omega arith
@@ -88,5 +88,5 @@ pub step-words-spec : {M : Type 1} → statement M
 step-words-spec =
     tie.close
     (tie.spec
-    (λ c κs. search needs) long (λ c κs. search needs) long-other masks-there channels-there dealer-there of-record fits (λ c κs. search needs)
+    (λ c κs. search needs) said (λ c κs. search needs) said-other masks-there channels-there dealer-there of-record fits (λ c κs. search needs)
     (λ c. search needs) (λ c. search needs) (λ c. search needs) (λ c. search needs) done)

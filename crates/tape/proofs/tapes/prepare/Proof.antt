@@ -1,7 +1,9 @@
 -- The tests that led to each call decide what the ring code asks for.
 use mathlib.Core.Path.{sym, _∙_}
+use native.Mathlib.Omega.{arith}
 use borrow.Author.Needs.{needs}
-use Rattle.tape.proofs.KindLaw.{bits-asked, other-asked, ring-asked, width-below}
+use Rattle.ring.proofs.RangeLaw.{width-le}
+use Rattle.tape.proofs.KindLaw.{bits-asked, other-asked, ring-asked}
 use Rattle.tape.proofs.tapes.prepare.Statement.{statement}
 use Rattle.tape.proofs.tapes.prepare.Tie as tie
 
@@ -9,7 +11,7 @@ bits : tie.Need-returns
 bits c = c .before .before .prepare-items .ensures ∙ sym (bits-asked _ _ _ (c .before .before .before .before .if1 .taken))
 
 narrow : tie.Need-prepare-items-requires-2
-narrow c κs = rw (c .before .before .width .ensures) (width-below (c .before .before .before .before .ring .given .0 .0))
+narrow c κs = omega (arith, c .before .before .width .ensures, width-le (c .before .before .before .before .ring .given .0 .0))
 
 in-ring : tie.Need-returns-2
 in-ring c =

@@ -1,10 +1,9 @@
--- What each task's numbers allow, and what its circuit takes.
+-- What each task's numbers allow.
 use Prim.Native.Nat.{_≤_}
 use native.Mathlib.Omega.{arith}
 use borrow.Author.Needs.{needs}
 use Rattle.ring.proofs.RangeLaw.{width-ge, width-le}
 use Rattle.order.specs.Tasks.{Decomposes, Shifts}
-use Rattle.order.proofs.CostLaw.{compose-costs, convert-costs, decompose-costs, multiply-costs, shift-costs}
 use Rattle.order.proofs.tasks.Task.cost.Statement.{statement}
 use Rattle.order.proofs.tasks.Task.cost.Tie as tie
 
@@ -32,8 +31,8 @@ cost-spec =
     (λ c κs. search needs) (λ c. search needs)
     (λ c. omega (arith, composes c))
     (λ c κs. search needs)
-    (λ c. multiply-costs (c .before .before .before .before .pre) (c .before .before .self .given .1) (c .costing .ensures))
-    (λ c. decompose-costs (c .before .before .before .before .pre) (c .before .before .self2 .given .1) (c .costing2 .ensures))
-    (λ c. convert-costs (c .before .before .before .before .pre) (c .before .before .self3 .given .1) (c .costing3 .ensures))
-    (λ c. shift-costs (c .before .before .before .before .before .pre) (c .before .before .before .self4 .given .1) (c .before .width .ensures) (c .costing4 .ensures))
-    (λ c. compose-costs (c .before .before .before .before .pre) (c .before .before .self5 .given .1) (c .costing5 .ensures)))
+    (λ c. rw (c .before .before .self .given .1) (c .costing .ensures))
+    (λ c. rw (c .before .before .self2 .given .1) (c .costing2 .ensures))
+    (λ c. rw (c .before .before .self3 .given .1) (c .costing3 .ensures))
+    (λ c. rw (c .before .before .before .self4 .given .1) (rw (c .before .width .ensures) at (c .costing4 .ensures)))
+    (λ c. rw (c .before .before .self5 .given .1) (c .costing5 .ensures)))
