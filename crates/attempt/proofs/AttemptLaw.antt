@@ -14,9 +14,8 @@ use Rattle.gate.specs.Places.{Place, p0, p1, p2, parts, sharing, tabled, three}
 use Rattle.gate.specs.declared.sharing.Sharing.{Sharing}
 use Rattle.circuit.specs.Circuits.{channelled, gatesOf, moduli, result, starts}
 use Rattle.circuit.specs.Lent.{Left, Long}
-use Rattle.circuit.proofs.LentLaw.{part-is}
+use Rattle.circuit.proofs.LentLaw.{part-is, partsFrom, putBack}
 use Rattle.circuit.proofs.RunLaw.{length-sent}
-use Rattle.compose.proofs.RunsLaw.{partsFrom, putBack}
 use Rattle.machine.specs.Checks.{anyBad, firstMet, gateChecks, uneven}
 use Rattle.machine.specs.Registers.{registerOf}
 use Rattle.machine.specs.Step.{written}

@@ -12,7 +12,7 @@ use Rattle.gate.specs.Places.{InRange, three}
 use Rattle.gate.specs.declared.sharing.Sharing.{Sharing}
 use Rattle.circuit.specs.Circuits.{gatesOf}
 use Rattle.circuit.specs.Lent.{ItemsBelow, Long}
-use Rattle.compose.proofs.RunsLaw.{long-less}
+use Rattle.circuit.proofs.LentLaw.{long-less}
 use Rattle.machine.specs.Checks.{anyBad}
 use Rattle.order.specs.Tasks.{Decomposes, Fit, Multiplies, Shifts, circuitOf, costOf}
 use Rattle.order.specs.declared.tasks.Cost.{Cost}

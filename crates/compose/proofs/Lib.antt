@@ -1,6 +1,5 @@
 pub mod ImageLaw
 pub mod QuotientLaw
-pub mod RunsLaw
 pub mod ShareLaw
 pub mod StepLaw
 pub mod SumLaw

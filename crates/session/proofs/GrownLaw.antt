@@ -1,5 +1,5 @@
 -- The tapes' runs after the lines taken, from line to line.
-use Prim.Native.Nat.{ℕ, _+_, _-_, _≤_, _<_}
+use Prim.Native.Nat.{ℕ, _+_, _-_, _≤_}
 use mathlib.Core.List.{List}
 use mathlib.Core.Path.{_≡_, ap, refl, sym, _∙_}
 use native.Mathlib.Omega.{arith}

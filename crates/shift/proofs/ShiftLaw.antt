@@ -7,22 +7,22 @@ use native.Mathlib.Omega.{arith}
 use lib.ListN.{drop, length, length-map}
 use lib.Pow.{pow-add, pow-pos}
 use Rattle.ring.specs.Rings.{bitOf, modulus}
-use Rattle.gate.specs.Places.{Place, p0, p1, p2, parts, tabled, three}
+use Rattle.gate.specs.Places.{Place, parts, tabled, three}
 use Rattle.gate.specs.declared.sharing.Sharing.{Sharing}
 use Rattle.gate.proofs.PlaceLaw.{each, tabled-at, tabled-is}
 use Rattle.circuit.specs.Bits.{gather}
-use Rattle.circuit.specs.Circuits.{Circuit, Gate, channelled, ends, result, sent, starts}
+use Rattle.circuit.specs.Circuits.{Circuit, Gate, channelled, ends, result, starts}
 use Rattle.circuit.specs.Compose.{Summing, composeGates, summingStart}
 use Rattle.circuit.specs.Decompose.{Digits, decomposeGates, digit, digitsStart}
 use Rattle.circuit.specs.Lent.{Left, Ran}
 use Rattle.circuit.specs.Orders.{decomposition, shifting, within, wordBit}
-use Rattle.circuit.proofs.RunLaw.{Images, ends-image, mapped, more, none, sent-image}
-use Rattle.value.proofs.BitsLaw.{gather-high, gather-split}
+use Rattle.circuit.proofs.BitsLaw.{gather-high, gather-split}
+use Rattle.circuit.proofs.LentLaw.{left-of, partsFrom, putBack, ran-three}
+use Rattle.circuit.proofs.RunLaw.{Images, ends-image, more, none, sent-image}
 use Rattle.value.proofs.Counts.{decompose-count}
 use Rattle.value.proofs.DecomposeLaw.{digit-lt}
 use Rattle.compose.specs.Sums.{Summed}
 use Rattle.compose.proofs.ImageLaw.{summed-as, worded}
-use Rattle.compose.proofs.RunsLaw.{left-of, partsFrom, putBack, ran-three}
 
 -- bit j of a word that is made of bits
 gather-bit : (n : ℕ) (b : ℕ → ℕ) → ((j : ℕ) → b j < 2) → (j : ℕ) → j < n → bitOf (gather n b) j ≡ b j

@@ -13,7 +13,6 @@ use Rattle.ring.proofs.CongLaw.{cong-add, cong-mod, cong-of-eq, cong-sym, cong-
 use Rattle.gate.specs.Places.{Below, Place, p0, p1, p2, total}
 use Rattle.circuit.specs.Bits.{alone, exclusive, gather, xor}
 use Rattle.circuit.proofs.BitsLaw.{bit-lt, gather-bits, gather-lt, stored-bit, stored-low, stored-lt}
-pub use Rattle.circuit.proofs.BitsLaw.{gather-high, gather-split}
 use Rattle.value.specs.Values.{summed}
 use Rattle.value.proofs.SumLaw.{summed-alone, summed-cong}
 

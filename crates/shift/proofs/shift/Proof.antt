@@ -1,14 +1,13 @@
 -- The decomposition, then its bits from s up on what is left of the runs.
 use Prim.Native.Nat.{ℕ, _+_, _*_, _-_, _≤_}
-use mathlib.Core.Path.{_∙_, _≡_, ap}
+use mathlib.Core.Path.{_∙_, ap}
 use native.Mathlib.Omega.{arith}
 use borrow.Author.Needs.{needs}
 use borrow.Rule.Slice.PartMut.{same-len-mid}
 use lib.ListN.{length}
 use Rattle.ring.proofs.RangeLaw.{width-le}
 use Rattle.circuit.specs.Lent.{Long}
-use Rattle.circuit.proofs.LentLaw.{long-on}
-use Rattle.compose.proofs.RunsLaw.{below-part, long-less}
+use Rattle.circuit.proofs.LentLaw.{below-part, long-less, long-on}
 use Rattle.shift.proofs.ShiftLaw.{shifted}
 use Rattle.shift.proofs.shift.Statement.{statement}
 use Rattle.shift.proofs.shift.Tie as tie
