@@ -28,7 +28,7 @@ afterDeals =
     ∷ lending 60 (Open 7)
     ∷ []
 
--- the job that deals a and b: wires of 61 words, mask tapes of 60 items, a dealer's tape of 5
+-- the job that deals a and b: channels of 61 words, mask tapes of 60 items, a dealer's tape of 5
 unfoldable pub dealing : ℕ → ℕ → Job
 dealing a b =
     record {

@@ -49,7 +49,7 @@ fn open_why(sound: bool, x: u64, a: Register, at: u64, l0: u64, l1: u64, l2: u64
     channels_why(l0, l1, l2, at)
 }
 
-// Unit i sends sub-share i+1: one word a channel, at a position.
+// Party i sends sub-share i+1: one word a channel, at a position.
 fn open_words(a: Sharing, at: u64, c0: &mut [u64], c1: &mut [u64], c2: &mut [u64])
     requires zero { ⌜ at < length (now c0) ⌝ }
     requires one { ⌜ at < length (now c1) ⌝ }

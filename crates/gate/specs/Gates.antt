@@ -15,7 +15,7 @@ unmask m own d = diff m own d
 unfoldable pub crossed : Pair → Pair → ℕ
 crossed x y = x .own * y .own + x .own * y .far + x .far * y .own
 
--- z_i, from what unit i holds and nothing else
+-- z_i, from what party i holds and nothing else
 unfoldable pub word : ℕ → Pair → Pair → Pair → ℕ
 word m x y t = (crossed x y + mask m t) % m
 

@@ -50,7 +50,7 @@ valueOf (Bits l x) = exclusive (parts x)
 abbrev pub written : ℕ → List ℕ → List ℕ → List ℕ
 written at ws c = take at c ++ (ws ++ drop (at + length ws) c)
 
--- positions that have risen: by gates on the strands, by words on the wires, by items on the dealer's tape
+-- positions that have risen: by gates on the mask tapes, by words on the channels, by items on the dealer's tape
 abbrev pub moved : Machine → ℕ → ℕ → ℕ → Machine
 moved m gates words items =
     record {
