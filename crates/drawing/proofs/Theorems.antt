@@ -1,5 +1,5 @@
 -- The lines printed, read by the job program's definition.
-use Prim.Native.Nat.{ℕ, zero, suc, _+_, _-_, _*_, _<_, _^_}
+use Prim.Native.Nat.{ℕ, zero, suc, _+_, _*_, _<_, _^_}
 use mathlib.Core.Bool.{Bool, true, false, not, _&&_}
 use mathlib.Core.List.{List, [], _∷_, _++_, append-assoc, append-nil, map}
 use mathlib.Core.Path.{_≡_, refl, _∙_}
