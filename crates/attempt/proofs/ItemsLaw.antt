@@ -16,7 +16,7 @@ use Rattle.gate.specs.Places.{three}
 use Rattle.circuit.specs.Lent.{ItemsBelow}
 use Rattle.circuit.proofs.LentLaw.{part-is}
 use Rattle.machine.specs.Checks.{anyBad, anyOutside}
-use Rattle.order.proofs.SoundLaw.{one-false, other-false}
+use Rattle.machine.proofs.KindLaw.{one-false, other-false}
 
 -- n items against one modulus, from item k on
 pub outside-next : (p n k : ℕ) (items : List ℕ) → k < n

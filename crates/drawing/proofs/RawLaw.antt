@@ -9,7 +9,7 @@ use lib.ListN.{drop, length, length-append, length-set, set, take}
 use lib.Seq.{drop-cons, set-at, take-at}
 use Rattle.drawing.specs.Raws.{rawWords, wordAt}
 
-pub words-length : (k : ℕ) (raw : List ℕ) → length (rawWords k raw) ≡ k
+words-length : (k : ℕ) (raw : List ℕ) → length (rawWords k raw) ≡ k
 unfolding rawWords
 words-length zero raw = refl
 words-length (suc k) raw = rw (length-append, words-length k raw, add-one)

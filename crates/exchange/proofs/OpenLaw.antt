@@ -30,7 +30,8 @@ use Rattle.order.specs.Changes.{Changes, applied}
 use Rattle.order.specs.declared.changes.Change.the-variants as change
 use Rattle.order.proofs.KindlyLaw.{unmet, unmet-rest}
 use Rattle.order.proofs.PrepareLaw.{kind-of}
-use Rattle.order.proofs.SoundLaw.{one-false, other-false, register-sound}
+use Rattle.machine.proofs.KindLaw.{one-false, other-false}
+use Rattle.order.proofs.SoundLaw.{register-sound}
 use Rattle.exchange.specs.Exchanges.{channelChecks, openChecks}
 use Rattle.exchange.proofs.CheckLaw.{begun, good, last-passed, met, others, passed, step-performed, step-refused, there}
 

@@ -2,8 +2,7 @@
 use Prim.Native.Nat.{ℕ}
 use mathlib.Core.Path.{_≡_, fun-ext, refl}
 use Rattle.gate.specs.Gates.{gated, word}
-use Rattle.gate.specs.Places.{Below, InRange, Place, held, p0, p1, p2, parts, sharing, tabled}
-use Rattle.gate.specs.declared.sharing.Sharing.{Sharing}
+use Rattle.gate.specs.Places.{Place, held, p0, p1, p2, parts, sharing, tabled}
 
 -- what holds at the three places holds at every place
 pub each {ℓ} : (P : Place → Type ℓ) → P p0 → P p1 → P p2 → (i : Place) → P i
@@ -26,6 +25,3 @@ gated-at m x y t i = tabled-at (λ j. word m (held x j) (held y j) (held t j)) i
 -- a sharing and its sub-shares by place
 pub parts-sharing : (x : Place → ℕ) → parts (sharing x) ≡ x
 parts-sharing x = tabled-is x
-
-pub in-range : {m : ℕ} (x : Sharing) → Below m (parts x) → InRange m x
-in-range x h = record { zero = h p0; one = h p1; two = h p2 }

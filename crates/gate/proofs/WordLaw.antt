@@ -74,7 +74,7 @@ module _ (x xf y yf t tf : ℕ) (hx : PairBelow 2 (pair x xf)) (hy : PairBelow 2
       refl
 
 -- three words that are the definition's make the gate's sharing
-pub words-are : (m : ℕ) (x y t : Sharing) {z₀ z₁ z₂ : ℕ}
+words-are : (m : ℕ) (x y t : Sharing) {z₀ z₁ z₂ : ℕ}
     → z₀ ≡ word m (held (parts x) p0) (held (parts y) p0) (held (parts t) p0)
     → z₁ ≡ word m (held (parts x) p1) (held (parts y) p1) (held (parts t) p1)
     → z₂ ≡ word m (held (parts x) p2) (held (parts y) p2) (held (parts t) p2)

@@ -16,7 +16,7 @@ use Rattle.machine.specs.declared.registers.Slot.{Slot}
 use Rattle.layout.specs.Layout.{MachineFound, before, found, joined, machineFrom, machineOf, none, registerOf, seenOf}
 use Rattle.layout.specs.declared.registers.RegisterRead.the-variants.{Found, NoRegister}
 
-pub joined-none : (f : MachineFound) → f ≡ joined [] f
+joined-none : (f : MachineFound) → f ≡ joined [] f
 joined-none (found m) = refl
 joined-none none = refl
 
@@ -38,12 +38,12 @@ module _ (ws : List ℕ) (i n : ℕ) (more : i < n) where
       → joined p (machineFrom (n - i) (drop (5 * i) ws)) ≡ none
   no-register p is = rw (goes-on, is)
 
-  pub one-read : (p : List Slot) (r : Register) → registerOf (midOf (5 * i) (length ws - 5 * i) ws) ≡ Found r
+  one-read : (p : List Slot) (r : Register) → registerOf (midOf (5 * i) (length ws - 5 * i) ws) ≡ Found r
       → joined p (machineFrom (n - i) (drop (5 * i) ws)) ≡ joined (p ++ (slot r ∷ [])) (machineFrom (n - (i + 1)) (drop (5 * (i + 1)) ws))
   one-read p r is = rw (goes-on, is, joined-joined)
 
 -- no register is left
-pub all-read : (ws : List ℕ) (p : List Slot) (i : ℕ) → i ≡ 16
+all-read : (ws : List ℕ) (p : List Slot) (i : ℕ) → i ≡ 16
     → joined p (machineFrom (16 - i) (drop (5 * i) ws))
     ≡ found (record { slots = p; «masks_at» = getD ws 80 0; «channels_at» = getD ws 81 0; «dealer_at» = getD ws 82 0 })
 unfolding machineFrom

@@ -8,6 +8,7 @@ use native.Mathlib.Omega.{arith}
 use borrow.Author.Tests.{le-leb, leb-true, lt-ltb, ltb-true}
 use lib.Dec.{eqb, leb, ltb}
 use lib.ListN.{length, length-append}
+pub use Rattle.machine.proofs.KindLaw.{left-true, right-true}
 use Rattle.line.specs.Lines.{allDigits, fieldsFrom, fits, isDigit, numberFrom, numberOf, numbersOf}
 
 -- a test holds or not
@@ -17,14 +18,6 @@ split false met unmet = unmet refl
 
 contrary : {t : Bool} → t ≡ true → t ≡ false → ⊥
 contrary p q = let wrong : _≡_ {A = ℕ} 0 1 = cc in omega arith
-
-pub left-true : (s t : Bool) → (s && t) ≡ true → s ≡ true
-left-true true t h = refl
-left-true false t h = h
-
-pub right-true : (s t : Bool) → (s && t) ≡ true → t ≡ true
-right-true true t h = h
-right-true false t h = cc
 
 pub both-true : {s t : Bool} → s ≡ true → t ≡ true → (s && t) ≡ true
 both-true p q = rw (p, q)

@@ -1,6 +1,6 @@
--- What soundness says of a register's sub-shares.
+-- Tests joined, and what soundness says of a register's sub-shares.
 use Prim.Native.Nat.{ℕ, _+_, _%_, _≤_, _^_}
-use mathlib.Core.Bool.{Bool, false, true, _&&_}
+use mathlib.Core.Bool.{Bool, false, true, _&&_, _||_}
 use mathlib.Core.Path.{_≡_, refl}
 use native.Mathlib.Nat.{mod-add-mod}
 use borrow.Author.Tests.{leb-true, ltb-true}
@@ -23,7 +23,15 @@ pub right-true : (a b : Bool) → a && b ≡ true → b ≡ true
 right-true true b h = h
 right-true false b h = cc
 
-pub shares-below : (m : ℕ) (x : Sharing) → sharesBelow m x ≡ true → InRange m x
+pub one-false : (a b : Bool) → a || b ≡ false → a ≡ false
+one-false true b h = h
+one-false false b h = refl
+
+pub other-false : (a b : Bool) → a || b ≡ false → b ≡ false
+other-false true b h = cc
+other-false false b h = h
+
+shares-below : (m : ℕ) (x : Sharing) → sharesBelow m x ≡ true → InRange m x
 shares-below m x h =
     let rest = right-true (ltb (x .s0) m) (ltb (x .s1) m && ltb (x .s2) m) h in
     record {

@@ -3,7 +3,7 @@ ghost use mathlib.Core.Bool.{true};
 ghost use mathlib.Core.Path.{_≡_};
 ghost use Rattle.ring.specs.Rings.{modulus};
 ghost use Rattle.machine.specs.Checks.{isBits, isEmpty, isNumber};
-ghost use Rattle.machine.specs.Registers.{countAt, kindOf, registerOf, ringAt, sharesOf, soundRegister, widthAt};
+ghost use Rattle.machine.specs.Registers.{countAt, kindOf, ringAt, sharesOf, soundRegister, widthAt};
 ghost use Rattle.machine.specs.Step.{valueOf};
 use crate::registers::Register;
 use gate::Sharing;
@@ -96,17 +96,6 @@ impl Register {
             },
             Register::Number(_, x) => x,
             Register::Bits(_, x) => x,
-        }
-    }
-
-    // A register of this kind with other sub-shares.
-    pub fn with_shares(self, x: Sharing) -> Register
-        ensures { λ r. ⌜ r ≡ registerOf (kindOf self) x ⌝ }
-    {
-        match self {
-            Register::Empty => Register::Empty,
-            Register::Number(r, _) => Register::Number(r, x),
-            Register::Bits(l, _) => Register::Bits(l, x),
         }
     }
 

@@ -22,13 +22,14 @@ use Rattle.machine.specs.declared.orders.Order.the-variants.{Add, Compose, Conv
 use Rattle.machine.specs.declared.registers.Machine.{Machine}
 use Rattle.machine.specs.declared.registers.Register.{Register}
 use Rattle.machine.specs.declared.registers.Register.the-variants.{Number}
-use Rattle.machine.proofs.KindLaw.{left-true, number-kind, right-true}
+use Rattle.machine.proofs.KindLaw.{left-true, number-kind, one-false, other-false, right-true}
+use Rattle.machine.proofs.SlotLaw.{kind-at}
 use Rattle.order.specs.Attempts.{Prepares, Sources, beginChecks, kindly}
 use Rattle.order.specs.Tasks.{addedTo, scaledBy}
 use Rattle.order.specs.declared.tasks.Prepared.the-variants.{Gates, Local}
 use Rattle.order.specs.declared.tasks.Task.the-variants as task
 use Rattle.order.proofs.KindlyLaw.{unmet, unmet-rest}
-use Rattle.order.proofs.SoundLaw.{few-bits, in-width, is-bits, is-number, kind-at, one-false, other-false, seated}
+use Rattle.order.proofs.SoundLaw.{few-bits, in-width, is-bits, is-number, seated}
 use Rattle.order.proofs.StepLaw.{gated, locally}
 
 bits-kind : (k : Kind) → isBits k ≡ true → k ≡ bits (countAt k)

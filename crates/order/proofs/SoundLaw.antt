@@ -1,33 +1,21 @@
 -- What checks 1 and 2 leave: a sound record, its registers in range, a destination that is there.
-use Prim.Native.Nat.{ℕ, zero, suc, _<_, _≤_}
-use mathlib.Core.Bool.{Bool, false, true, _&&_, _||_}
-use mathlib.Core.List.{List, [], _∷_}
-use mathlib.Core.Path.{_≡_, refl, ap, sym, _∙_}
+use Prim.Native.Nat.{ℕ, _≤_}
+use mathlib.Core.Bool.{false, true, _&&_}
+use mathlib.Core.List.{List, _∷_}
+use mathlib.Core.Path.{_≡_, refl, sym}
 use native.Mathlib.Omega.{arith}
 use borrow.Author.Tests.{leb-true, ltb-false}
 use lib.Dec.{leb, ltb}
-use lib.ListN.{List·getD-map, getD}
 use Rattle.ring.specs.Rings.{modulus}
 use Rattle.gate.specs.Places.{InRange}
 use Rattle.machine.specs.Checks.{anyAbove15, isBits, isEmpty, isNumber}
-use Rattle.machine.specs.Registers.{Kind, bits, empty, kindAt, kindOf, million, number, publicOf, registerAt, sharesOf, slot, sound, soundRegister, soundSlots, widthAt}
+use Rattle.machine.specs.Registers.{Kind, bits, empty, kindOf, million, number, registerAt, sharesOf, sound, soundRegister, soundSlots, widthAt}
 use Rattle.machine.specs.declared.registers.Machine.{Machine}
 use Rattle.machine.specs.declared.registers.Register.{Register}
 use Rattle.machine.specs.declared.registers.Register.the-variants.{Bits, Empty, Number}
-use Rattle.machine.specs.declared.registers.Slot.{Slot}
-use Rattle.machine.proofs.KindLaw.{bits-below, left-true, number-below, right-true}
+use Rattle.machine.proofs.KindLaw.{bits-below, left-true, number-below, one-false, right-true}
+use Rattle.machine.proofs.SlotLaw.{slot-sound}
 use Rattle.order.specs.Tasks.{Seated}
-
-slot-sound : (l : List Slot) (k : ℕ) → soundSlots l ≡ true → soundRegister (getD l k (slot Empty) .reg) ≡ true
-unfolding soundSlots soundRegister
-slot-sound [] k h = refl
-slot-sound (s ∷ l) zero h = left-true (soundRegister (s .reg)) (soundSlots l) h
-slot-sound (s ∷ l) (suc k) h = slot-sound l k (right-true (soundRegister (s .reg)) (soundSlots l) h)
-
--- what is public of a register is its own
-pub kind-at : (m : Machine) (x : ℕ) → kindAt (publicOf m) x ≡ kindOf (registerAt m x)
-unfolding registerAt
-kind-at m x = List·getD-map (λ (s : Slot). kindOf (s .reg)) (m .slots) x (slot Empty)
 
 -- neither empty nor bits
 pub is-number : (k : Kind) → isEmpty k ≡ false → isBits k ≡ false → isNumber k ≡ true
@@ -45,14 +33,6 @@ bits-is : (a : Register) {l : ℕ} → kindOf a ≡ bits l → a ≡ Bits l (sha
 bits-is Empty e = cc
 bits-is (Number s x) e = cc
 bits-is (Bits l x) e = cc
-
-pub one-false : (a b : Bool) → a || b ≡ false → a ≡ false
-one-false true b h = h
-one-false false b h = refl
-
-pub other-false : (a b : Bool) → a || b ≡ false → b ≡ false
-other-false true b h = cc
-other-false false b h = h
 
 -- a sound number is in the range of its width
 number-in : (a : Register) → soundRegister a ≡ true → isNumber (kindOf a) ≡ true → InRange (modulus (widthAt (kindOf a))) (sharesOf a)

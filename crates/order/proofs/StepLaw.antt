@@ -1,11 +1,11 @@
 -- A step in two parts: what the record alone decides, then lengths, items and gates.
-use Prim.Native.Nat.{ℕ, _+_}
+use Prim.Native.Nat.{ℕ}
 use mathlib.Core.Bool.{Bool, cond, false, true}
 use mathlib.Core.List.{List, [], _∷_, _++_, append-assoc}
 use mathlib.Core.Path.{_≡_, refl, ap, ap₂, fun-ext, sym, _∙_}
 use native.Mathlib.Nat.{add-zero}
 use lib.Dec.{eqb}
-use lib.ListN.{drop, length, take, take-append-drop}
+use lib.ListN.{length, take-append-drop}
 use Rattle.gate.specs.Places.{Place, parts, sharing, tabled}
 use Rattle.gate.proofs.PlaceLaw.{tabled-is}
 use Rattle.circuit.specs.Circuits.{Circuit, Gate, channelled, gatesOf, result, sent, starts}
@@ -104,7 +104,7 @@ module _ (o : Order) (m : Machine) where
       (append-assoc (kindChecks o (publicOf m)) (lengthChecks (workOf o (publicOf m)) (publicOf m) (lengthsOf T c)) _)
       ∙ kindly-then m o (laterChecks (workOf o (publicOf m)) m T c)
 
-  pub step-refused : (w : Refusal) → kindly o m ≡ numberOf w → (T : Tapes) (c : Place → List ℕ) → step o m T c ≡ refused (numberOf w) m c
+  step-refused : (w : Refusal) → kindly o m ≡ numberOf w → (T : Tapes) (c : Place → List ℕ) → step o m T c ≡ refused (numberOf w) m c
   unfolding step
   step-refused w e T c =
       let later = firstMet (laterChecks (workOf o (publicOf m)) m T c) in
@@ -112,7 +112,7 @@ module _ (o : Order) (m : Machine) where
       = checks-split T c ∙ ap (λ (n : ℕ). firstOf n later) e ∙ sym (first-refusal w later) in
       rw (is, numbered w)
 
-  pub step-later : kindly o m ≡ 0 → (T : Tapes) (c : Place → List ℕ) → step o m T c ≡ later (workOf o (publicOf m)) m T c
+  step-later : kindly o m ≡ 0 → (T : Tapes) (c : Place → List ℕ) → step o m T c ≡ later (workOf o (publicOf m)) m T c
   unfolding step
   step-later e T c = rw (checks-split T c, e)
 

@@ -19,7 +19,7 @@ pub struct Outcome {
 }
 
 // 01's number of a refusal.
-pub fn number(w: Refusal) -> u64
+fn number(w: Refusal) -> u64
     ensures { λ r. ⌜ r ≡ numberOf w ⌝ }
 {
     match w {

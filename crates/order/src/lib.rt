@@ -1,4 +1,4 @@
-// The nine orders of 01 and the machine's step.
+// Orders 2 to 8 as far as the record decides them, verdicts, and the change that an order makes.
 mod answers;
 mod changes;
 mod prepare;
@@ -8,7 +8,6 @@ mod verdicts;
 pub use answers::Outcome;
 pub use answers::Verdict;
 pub use answers::gates;
-pub use answers::number;
 pub use answers::refusal;
 pub use answers::refuse_if;
 pub use answers::value;

@@ -19,7 +19,7 @@ use ring::OfWidth;
 use ring::Ring;
 
 // Checks 1 and 2, of an order that names up to three registers.
-pub fn begin(sound: bool, d: u64, x: u64, y: u64) -> Verdict
+fn begin(sound: bool, d: u64, x: u64, y: u64) -> Verdict
     ensures { λ v. ⌜ verdictOf v ≡ firstMet (beginChecks sound (d ∷ x ∷ y ∷ [])) ⌝ }
 {
     let unsound = refuse_if(!sound, Refusal::Unsound);
@@ -28,7 +28,7 @@ pub fn begin(sound: bool, d: u64, x: u64, y: u64) -> Verdict
 }
 
 // Checks 3, 4 and 6 of two sources.
-pub fn two_numbers(x: Register, y: Register) -> Verdict
+fn two_numbers(x: Register, y: Register) -> Verdict
     ensures { λ v. ⌜ verdictOf v ≡ firstMet (twoNumbers (kindOf x) (kindOf y)) ⌝ }
 {
     let empty = refuse_if(x.is_empty() | y.is_empty(), Refusal::EmptySource);
@@ -38,7 +38,7 @@ pub fn two_numbers(x: Register, y: Register) -> Verdict
 }
 
 // Checks 3 and 4 of a source that must be a number.
-pub fn a_number(x: Register) -> Verdict
+fn a_number(x: Register) -> Verdict
     ensures { λ v. ⌜ verdictOf v ≡ firstMet (aNumber (kindOf x)) ⌝ }
 {
     let empty = refuse_if(x.is_empty(), Refusal::EmptySource);

@@ -1,6 +1,6 @@
 -- Lists of checks, and what an order does when none is met.
 use Prim.Native.Nat.{ℕ, suc, zero, _<_}
-use mathlib.Core.Bool.{Bool, and-eq-true-iff, cond, false, true, true≢false, _&&_, _||_}
+use mathlib.Core.Bool.{Bool, and-eq-true-iff, cond, false, true, _&&_, _||_}
 use mathlib.Core.List.{List, [], _∷_, _++_}
 use mathlib.Core.Path.{_≡_, ap, refl, sym, _∙_}
 use native.Mathlib.Omega.{arith}
@@ -14,11 +14,11 @@ use Rattle.machine.specs.Work.{Work, adjusts, computes, deals, opens, workOf}
 use Rattle.machine.specs.declared.orders.Order.{Order}
 use Rattle.machine.specs.declared.orders.Order.the-variants.{Add, Compose, Convert, Deal, Decompose, Multiply, Open, Scale, Shift}
 use Rattle.machine.specs.declared.registers.Machine.{Machine}
+use Rattle.machine.proofs.KindLaw.{one-false, other-false}
 
 -- a check of two tests that is not met
 pub neither : (a b : Bool) → a || b ≡ false → (a ≡ false) × (b ≡ false)
-neither true b h = absurd (true≢false h)
-neither false b h = (refl, h)
+neither a b h = (one-false a b h, other-false a b h)
 
 -- none of the checks is met
 abbrev pub Passed : List Check → Type 0

@@ -16,12 +16,12 @@ use Rattle.machine.specs.declared.orders.Order.the-variants.{Add, Compose, Conv
 use Rattle.machine.specs.declared.registers.Machine.{Machine}
 use Rattle.machine.specs.declared.registers.Register.{Register}
 use Rattle.machine.specs.declared.registers.Register.the-variants.{Bits, Empty, Number}
+use Rattle.machine.proofs.SlotLaw.{kind-at}
 use Rattle.party.specs.Own.{Brought, Own, brought, ownOf, ownPerformed}
 use Rattle.party.specs.Steps.{answer, broughtBy, gatesIn, ownAnswer, ownStep, ownValue, withoutNumber}
 use Rattle.party.proofs.Local.{column-at, step-local}
 use Rattle.outcome.specs.Local.{AnswerOwn, StepOwn}
 use Rattle.outcome.proofs.CheckLaw.{accepted, refused-is}
-use Rattle.outcome.proofs.RegisterLaw.{kind-at}
 
 -- a party does not use a deal's number
 number-unused : (U : Place) (o : Order) (p : Public) (P : Own) (B : Brought)

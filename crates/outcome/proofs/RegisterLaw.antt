@@ -3,7 +3,7 @@ use Prim.Native.Nat.{ℕ, zero, suc, _<_, _≤_, _^_}
 use mathlib.Core.Bool.{Bool, and-eq-true-iff, true, _&&_}
 use mathlib.Core.List.{List, [], _∷_}
 use mathlib.Core.Path.{_≡_, ap, refl, sym, _∙_}
-use lib.ListN.{List·getD-map, getD, length, set}
+use lib.ListN.{length, set}
 use lib.Seq.{getD-set-other, getD-set-same}
 use borrow.Author.Tests.{le-leb, leb-true, lt-ltb, ltb-true}
 use Rattle.ring.specs.Rings.{modulusOf}
@@ -17,15 +17,12 @@ use Rattle.machine.specs.declared.registers.Machine.{Machine}
 use Rattle.machine.specs.declared.registers.Register.{Register}
 use Rattle.machine.specs.declared.registers.Register.the-variants.{Bits, Empty, Number}
 use Rattle.machine.specs.declared.registers.Slot.{Slot}
+use Rattle.machine.proofs.SlotLaw.{kind-at, slot-sound}
 use Rattle.outcome.specs.Theorems.{valueAt}
 
 -- the sub-shares of register k
 abbrev pub sharesAt : Machine → ℕ → Place → ℕ
 sharesAt m k = parts (sharesOf (registerAt m k))
-
-pub kind-at : (m : Machine) (k : ℕ) → kindAt (publicOf m) k ≡ kindOf (registerAt m k)
-unfolding registerAt
-kind-at m k = List·getD-map (λ (s : Slot). kindOf (s .reg)) (m .slots) k (slot Empty)
 
 -- the value of three sub-shares, by kind
 abbrev pub valueAs : Kind → (Place → ℕ) → ℕ
@@ -97,12 +94,6 @@ first-sound : (s : Slot) (ss : List Slot) → soundSlots (s ∷ ss) ≡ true →
 unfolding soundSlots
 first-sound s ss h = both h
 
-slots-sound : (ss : List Slot) (k : ℕ) → soundSlots ss ≡ true → soundRegister (getD ss k (slot Empty) .reg) ≡ true
-unfolding soundRegister
-slots-sound [] k h = refl
-slots-sound (s ∷ ss) zero h = first-sound s ss h .0
-slots-sound (s ∷ ss) (suc k) h = slots-sound ss k (first-sound s ss h .1)
-
 set-sound : (ss : List Slot) (k : ℕ) (r : Register)
     → soundSlots ss ≡ true → soundRegister r ≡ true → soundSlots (set ss k (slot r)) ≡ true
 unfolding soundSlots
@@ -146,7 +137,7 @@ parts-sound m h =
 pub register-fits : (m : Machine) (k : ℕ) → sound m ≡ true → Fits (kindAt (publicOf m) k) (sharesAt m k)
 unfolding registerAt
 register-fits m k h =
-    rw (kind-at m k) (sound-fits (registerAt m k) (slots-sound (m .slots) k (sound-parts m h .slots)))
+    rw (kind-at m k) (sound-fits (registerAt m k) (slot-sound (m .slots) k (sound-parts m h .slots)))
 
 pub sound-with : (m : Machine) (d : ℕ) (kind : Kind) (z : Place → ℕ)
     → Sound m → Fits kind z → sound (withRegister m d (registerOf kind (sharing z))) ≡ true

@@ -23,7 +23,7 @@ width-ge R13 = lit≤ tt
 width-ge R31 = lit≤ tt
 width-ge R61 = lit≤ tt
 
-pub width-odd : (r : Ring) → 2 * (widthOf r / 2) + 1 ≡ widthOf r
+width-odd : (r : Ring) → 2 * (widthOf r / 2) + 1 ≡ widthOf r
 width-odd R13 = refl
 width-odd R31 = refl
 width-odd R61 = refl

@@ -4,11 +4,16 @@ use mathlib.Core.Path.{_≡_, _∙_, ap}
 use native.Mathlib.Nat.{div-add-mod', mod-lt, div-lt-iff-lt-mul, div-le-of-le-mul, mul-le-mul, le-of-lt, le-of-eq}
 use native.Mathlib.Omega.{arith}
 use lib.Bits.{bitAnd, and-mask}
-use lib.Pow.{pow-pos, pow-mono, ones-split, high, ones-lt}
+use lib.Dec.{lit<}
+use lib.Pow.{pow-pos, pow-mono, ones-split, high, ones-lt, shl-exact}
 use Rattle.ring.specs.Modular.{Cong}
 use Rattle.ring.specs.Rings.{modulus}
 use Rattle.ring.proofs.CongLaw.{cong-of-eq, cong-trans, cong-sym}
 use Rattle.ring.proofs.Theorems.{folds, modulus-suc, next-power, odd-power, product}
+
+-- a one that is shifted within a word
+pub shifted-one : (k : ℕ) → k < 64 → (1 * 2 ^ k) % 2 ^ 64 ≡ 2 ^ k
+shifted-one k h = shl-exact 1 k 64 (lit< tt) (omega arith) ∙ omega arith
 
 -- the modulus of width e is the mask of the low e bits
 pub low-bits : (e p s : ℕ) → p ≡ modulus e → bitAnd s p ≡ s % 2 ^ e

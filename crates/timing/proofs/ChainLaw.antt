@@ -1,7 +1,7 @@
 -- One gate more on a chain, and the tests that start one.
 use Prim.Native.Nat.{ℕ, suc, _+_, _*_, _-_, _/_, _≤_, _<_}
 use mathlib.Core.Bool.{Bool, _&&_, and-eq-true-iff, cond, false, true}
-use mathlib.Core.List.{List, [], _++_, _∷_, append-assoc, append-nil, map}
+use mathlib.Core.List.{List, [], _++_, _∷_, append-assoc, append-nil, map, map-append}
 use mathlib.Core.Path.{_≡_, refl, sym, ap, _∙_}
 use native.Mathlib.Nat.{sub-zero}
 use native.Mathlib.Numerals.{add-one}
@@ -17,10 +17,6 @@ use Rattle.ring.specs.declared.rings.OfWidth.the-variants.{Named, NoRing}
 use Rattle.ring.specs.declared.rings.Ring.{Ring}
 use Rattle.ring.specs.Rings.{modulusOf, ringOf}
 use Rattle.timing.specs.Chains.{Ran, chain, gateOf, gates, inRange, shaped, started, tripleAt, written}
-
-map-append : (f : Sharing → ℕ) (zs ws : List Sharing) → map f (zs ++ ws) ≡ map f zs ++ map f ws
-map-append f [] ws = refl
-map-append f (z ∷ zs) ws = ap (λ (l : List ℕ). f z ∷ l) (map-append f zs ws)
 
 -- the channel with one word more, stored at the head of its part from gate i on
 word-more : (f : Sharing → ℕ) (zs : List Sharing) (z : Sharing) {i : ℕ} (c d e : List ℕ)

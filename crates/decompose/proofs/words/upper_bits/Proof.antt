@@ -3,12 +3,13 @@ use mathlib.Core.Path.{refl}
 use native.Mathlib.Omega.{arith}
 use borrow.Author.Needs.{needs}
 use lib.Pow.{pow-pos}
-use Rattle.decompose.proofs.WordLaw.{mask-is, upper-is, upper-lt}
+use Rattle.ring.proofs.WordLaw.{shifted-one}
+use Rattle.decompose.proofs.WordLaw.{upper-is, upper-lt}
 use Rattle.decompose.proofs.words.upper_bits.Statement.{statement}
 use Rattle.decompose.proofs.words.upper_bits.Tie as tie
 
 sub-result : tie.Need-sub-result
-sub-result c = omega (arith, mask-is (c .pre), pow-pos (c .args .l))
+sub-result c = omega (arith, shifted-one (c .args .l) (c .pre), pow-pos (c .args .l))
 
 returns : tie.Need-returns
 returns c = rw (upper-is (c .args .total) (c .args .raising) (c .pre)) (refl, upper-lt (c .args .total) (c .args .raising) (c .args .l))

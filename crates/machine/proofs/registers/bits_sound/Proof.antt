@@ -1,18 +1,14 @@
 -- A shift by 59 at most is a power of two.
-use Prim.Native.Nat.{ℕ, _*_, _%_, _^_, _≤_}
 use mathlib.Core.Bool.{Bool, false, true, _&&_}
-use mathlib.Core.Path.{_≡_, refl, sym, ap, _∙_}
+use mathlib.Core.Path.{_≡_, refl}
 use native.Mathlib.Omega.{arith}
 use borrow.Author.Needs.{needs}
 use borrow.Author.Tests.{le-leb, lt-leb}
-use lib.Dec.{leb, lit<}
-use lib.Pow.{shl-exact}
+use lib.Dec.{leb}
+use Rattle.ring.proofs.WordLaw.{shifted-one}
 use Rattle.machine.specs.Registers.{soundRegister}
 use Rattle.machine.proofs.registers.bits_sound.Statement.{statement}
 use Rattle.machine.proofs.registers.bits_sound.Tie as tie
-
-shifted : (l : ℕ) → l ≤ 59 → (1 * 2 ^ l) % 2 ^ 64 ≡ 2 ^ l
-shifted l h = shl-exact 1 l 64 (lit< tt) (omega arith) ∙ omega arith
 
 both-false : (b : Bool) → false ≡ b && false
 both-false false = refl
@@ -24,7 +20,7 @@ many c = rw (lt-leb (c .before .args .l) 59 (c .if1 .taken)) (both-false (leb 1 
 
 few : tie.Need-returns-2
 unfolding soundRegister
-few c = rw (c .in-range .ensures, le-leb (c .before .before .args .l) 59 (c .before .if1 .left), shifted (c .before .before .args .l) (c .before .if1 .left))
+few c = rw (c .in-range .ensures, le-leb (c .before .before .args .l) 59 (c .before .if1 .left), shifted-one (c .before .before .args .l) (omega arith))
 
 pub bits-sound-spec : {M : Type 1} → statement M
 bits-sound-spec = tie.close (tie.spec many (λ c. search needs) (λ c κs. search needs) few)

@@ -1,5 +1,5 @@
 use mathlib.Core.Bool.{Bool, or-false, _||_}
-use mathlib.Core.Path.{_≡_, refl, ap, sym}
+use mathlib.Core.Path.{refl, ap, sym}
 use borrow.Author.Needs.{needs}
 use lib.Dec.{ltb}
 use Rattle.machine.specs.Checks.{anyAbove15}
