@@ -36,7 +36,7 @@ use Rattle.order.specs.declared.tasks.Prepared.{Prepared}
 use Rattle.order.specs.declared.tasks.Prepared.the-variants.{Gates, Local}
 use Rattle.order.specs.declared.tasks.Task.{Task}
 use Rattle.order.proofs.CostLaw.{Costs}
-use Rattle.order.proofs.KindlyLaw.{unmet, unmet-rest}
+use Rattle.order.proofs.CheckLaw.{unmet, unmet-rest}
 use Rattle.machine.proofs.KindLaw.{one-false, other-false}
 use Rattle.order.proofs.VerdictLaw.{numbered}
 use Rattle.attempt.proofs.SupplyLaw.{gates-cost}

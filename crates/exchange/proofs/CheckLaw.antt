@@ -19,7 +19,7 @@ use Rattle.order.specs.Attempts.{beginChecks}
 use Rattle.order.specs.Changes.{Changes}
 use Rattle.order.specs.Tasks.{Seated}
 use Rattle.order.specs.declared.changes.Change.the-variants as change
-use Rattle.order.proofs.KindlyLaw.{unmet, unmet-rest}
+use Rattle.order.proofs.CheckLaw.{unmet, unmet-rest}
 use Rattle.order.proofs.SoundLaw.{seated}
 use Rattle.order.proofs.VerdictLaw.{numbered}
 

@@ -28,7 +28,7 @@ use Rattle.order.specs.Answers.{refusalOf}
 use Rattle.order.specs.Attempts.{Sources}
 use Rattle.order.specs.Changes.{Changes, applied}
 use Rattle.order.specs.declared.changes.Change.the-variants as change
-use Rattle.order.proofs.KindlyLaw.{unmet, unmet-rest}
+use Rattle.order.proofs.CheckLaw.{unmet, unmet-rest}
 use Rattle.order.proofs.PrepareLaw.{kind-of}
 use Rattle.machine.proofs.KindLaw.{one-false, other-false}
 use Rattle.order.proofs.SoundLaw.{register-sound}

@@ -1,5 +1,5 @@
+pub mod CheckLaw
 pub mod CostLaw
-pub mod KindlyLaw
 pub mod PrepareLaw
 pub mod SoundLaw
 pub mod StepLaw

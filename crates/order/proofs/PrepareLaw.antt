@@ -24,11 +24,11 @@ use Rattle.machine.specs.declared.registers.Register.{Register}
 use Rattle.machine.specs.declared.registers.Register.the-variants.{Number}
 use Rattle.machine.proofs.KindLaw.{left-true, number-kind, one-false, other-false, right-true}
 use Rattle.machine.proofs.SlotLaw.{kind-at}
-use Rattle.order.specs.Attempts.{Prepares, Sources, beginChecks, kindly}
+use Rattle.order.specs.Attempts.{Prepares, Sources, beginChecks, recordRefusal}
 use Rattle.order.specs.Tasks.{addedTo, scaledBy}
 use Rattle.order.specs.declared.tasks.Prepared.the-variants.{Gates, Local}
 use Rattle.order.specs.declared.tasks.Task.the-variants as task
-use Rattle.order.proofs.KindlyLaw.{unmet, unmet-rest}
+use Rattle.order.proofs.CheckLaw.{unmet, unmet-rest}
 use Rattle.order.proofs.SoundLaw.{few-bits, in-width, is-bits, is-number, seated}
 use Rattle.order.proofs.StepLaw.{gated, locally}
 
@@ -64,17 +64,17 @@ module _ (m : Machine) where
       rw (shares, at) (rw own at (in-width m sure x (ap isNumber own)))
 
   -- what an order that is not refused has passed
-  module _ (o : Order) (fine : kindly o m ≡ 0) where
+  module _ (o : Order) (fine : recordRefusal o m ≡ 0) where
     good : sound m ≡ true
-    unfolding kindly
+    unfolding recordRefusal
     good = not-false (sound m) (unmet (not (sound m)) 1 _ refl fine)
 
     there : anyAbove15 (named o) ≡ false
-    unfolding kindly
+    unfolding recordRefusal
     there = unmet (anyAbove15 (named o)) 2 _ refl (unmet-rest (not (sound m)) 1 _ refl fine)
 
     kinds : firstMet (kindChecks o (publicOf m)) ≡ 0
-    unfolding kindly
+    unfolding recordRefusal
     kinds = unmet-rest (anyAbove15 (named o)) 2 _ refl (unmet-rest (not (sound m)) 1 _ refl fine)
 
   -- a source that is a number, and the checks after
@@ -95,13 +95,13 @@ module _ (m : Machine) where
         → r ≡ ringAt (kindOf a) → s ≡ sharesOf a → InRange (modulusOf r) s
     source-in {r = r} sure at ring shares = ranged x sure (number-at at ring) at shares
 
-  pub decompose-kindly : (d x l : ℕ) {s : Bool} {a : Register} {w most v : ℕ} → Sources m s x a x a → w ≡ widthAt (kindOf a) → most ≡ w - 2
+  pub decompose-refusal : (d x l : ℕ) {s : Bool} {a : Register} {w most v : ℕ} → Sources m s x a x a → w ≡ widthAt (kindOf a) → most ≡ w - 2
       → v ≡ firstMet (beginChecks s (d ∷ x ∷ []) ++ (aNumber (kindOf a) ++ (check (not (leb 1 l && leb l most)) 7 ∷ [])))
-      → v ≡ kindly (Decompose d x l) m
-  unfolding kindly
-  decompose-kindly d x l of wide most e = rw (most, wide, kind-of x (of .first), of .sound) at e
+      → v ≡ recordRefusal (Decompose d x l) m
+  unfolding recordRefusal
+  decompose-refusal d x l of wide most e = rw (most, wide, kind-of x (of .first), of .sound) at e
 
-  pub decompose-prepares : (d x l : ℕ) {a : Register} {r : Ring} {s : Sharing} → kindly (Decompose d x l) m ≡ 0 → a ≡ registerAt m x
+  pub decompose-prepares : (d x l : ℕ) {a : Register} {r : Ring} {s : Sharing} → recordRefusal (Decompose d x l) m ≡ 0 → a ≡ registerAt m x
       → r ≡ ringAt (kindOf a) → s ≡ sharesOf a → Prepares (Decompose d x l) m d (Gates (task.Decompose r s l))
   decompose-prepares d x l {a} {r} {s} fine at ring shares =
       let o = Decompose d x l in
@@ -120,13 +120,13 @@ module _ (m : Machine) where
         most = rw kind at (leb-true l (widthAt k - 2) (right-true (leb 1 l) (leb l (widthAt k - 2)) test));
       })
 
-  pub shift-kindly : (d x n : ℕ) {s : Bool} {a : Register} {w most v : ℕ} → Sources m s x a x a → w ≡ widthAt (kindOf a) → most ≡ w - 3
+  pub shift-refusal : (d x n : ℕ) {s : Bool} {a : Register} {w most v : ℕ} → Sources m s x a x a → w ≡ widthAt (kindOf a) → most ≡ w - 3
       → v ≡ firstMet (beginChecks s (d ∷ x ∷ []) ++ (aNumber (kindOf a) ++ (check (not (leb n most)) 7 ∷ [])))
-      → v ≡ kindly (Shift d x n) m
-  unfolding kindly
-  shift-kindly d x n of wide most e = rw (most, wide, kind-of x (of .first), of .sound) at e
+      → v ≡ recordRefusal (Shift d x n) m
+  unfolding recordRefusal
+  shift-refusal d x n of wide most e = rw (most, wide, kind-of x (of .first), of .sound) at e
 
-  pub shift-prepares : (d x s : ℕ) {a : Register} {r : Ring} {z : Sharing} → kindly (Shift d x s) m ≡ 0 → a ≡ registerAt m x
+  pub shift-prepares : (d x s : ℕ) {a : Register} {r : Ring} {z : Sharing} → recordRefusal (Shift d x s) m ≡ 0 → a ≡ registerAt m x
       → r ≡ ringAt (kindOf a) → z ≡ sharesOf a → Prepares (Shift d x s) m d (Gates (task.Shift r z s))
   shift-prepares d x s {a} {r} {z} fine at ring shares =
       let o = Shift d x s in
@@ -144,13 +144,13 @@ module _ (m : Machine) where
         most = rw kind at (leb-true s (widthAt k - 3) test);
       })
 
-  pub convert-kindly : (d x f : ℕ) {s t : Bool} {a : Register} {v : ℕ} → Sources m s x a x a → t ≡ noRing (ringOf f)
+  pub convert-refusal : (d x f : ℕ) {s t : Bool} {a : Register} {v : ℕ} → Sources m s x a x a → t ≡ noRing (ringOf f)
       → v ≡ firstMet (beginChecks s (d ∷ x ∷ []) ++ (aNumber (kindOf a) ++ (check t 5 ∷ [])))
-      → v ≡ kindly (Convert d x f) m
-  unfolding kindly
-  convert-kindly d x f of e h = rw (e, kind-of x (of .first), of .sound) at h
+      → v ≡ recordRefusal (Convert d x f) m
+  unfolding recordRefusal
+  convert-refusal d x f of e h = rw (e, kind-of x (of .first), of .sound) at h
 
-  pub convert-prepares : (d x f : ℕ) {a : Register} {r g : Ring} {s : Sharing} → kindly (Convert d x f) m ≡ 0 → a ≡ registerAt m x
+  pub convert-prepares : (d x f : ℕ) {a : Register} {r g : Ring} {s : Sharing} → recordRefusal (Convert d x f) m ≡ 0 → a ≡ registerAt m x
       → r ≡ ringAt (kindOf a) → g ≡ ringAt (numberKind (ringOf f))
       → s ≡ sharesOf a → Prepares (Convert d x f) m d (Gates (task.Convert r g s))
   convert-prepares d x f {a} {r} {g} {s} fine at ring other shares =
@@ -167,13 +167,13 @@ module _ (m : Machine) where
       same same (seated m sure d (x ∷ []) (there o fine))
       (source-in x more (kinds o fine) sure at ring shares)
 
-  pub scale-kindly : (d x c : ℕ) {s : Bool} {a : Register} {p v : ℕ} → Sources m s x a x a → p ≡ modulus (widthAt (kindOf a))
+  pub scale-refusal : (d x c : ℕ) {s : Bool} {a : Register} {p v : ℕ} → Sources m s x a x a → p ≡ modulus (widthAt (kindOf a))
       → v ≡ firstMet (beginChecks s (d ∷ x ∷ []) ++ (aNumber (kindOf a) ++ (check (leb p c) 7 ∷ [])))
-      → v ≡ kindly (Scale d x c) m
-  unfolding kindly
-  scale-kindly d x c of e h = rw (e, kind-of x (of .first), of .sound) at h
+      → v ≡ recordRefusal (Scale d x c) m
+  unfolding recordRefusal
+  scale-refusal d x c of e h = rw (e, kind-of x (of .first), of .sound) at h
 
-  module _ (d x c : ℕ) {a : Register} {r : Ring} {s : Sharing} (fine : kindly (Scale d x c) m ≡ 0) (at : a ≡ registerAt m x)
+  module _ (d x c : ℕ) {a : Register} {r : Ring} {s : Sharing} (fine : recordRefusal (Scale d x c) m ≡ 0) (at : a ≡ registerAt m x)
       (ring : r ≡ ringAt (kindOf a)) (shares : s ≡ sharesOf a) where
     scaled-kind : kindAt (publicOf m) x ≡ number r
     scaled-kind = number-at x _ (kinds (Scale d x c) fine) at ring
@@ -196,11 +196,11 @@ module _ (m : Machine) where
         (seated m (good (Scale d x c) fine) d (x ∷ []) (there (Scale d x c) fine))
 
   -- two numbers of one ring
-  pub pair-kindly : (d x y : ℕ) {s : Bool} {a b : Register} {v : ℕ} → Sources m s x a y b
+  pub pair-refusal : (d x y : ℕ) {s : Bool} {a b : Register} {v : ℕ} → Sources m s x a y b
       → v ≡ firstMet (beginChecks s (d ∷ x ∷ y ∷ []) ++ twoNumbers (kindOf a) (kindOf b))
-      → (v ≡ kindly (Add d x y) m) × (v ≡ kindly (Multiply d x y) m)
-  unfolding kindly
-  pair-kindly d x y of e =
+      → (v ≡ recordRefusal (Add d x y) m) × (v ≡ recordRefusal (Multiply d x y) m)
+  unfolding recordRefusal
+  pair-refusal d x y of e =
       let h = rw (kind-of x (of .first), kind-of y (of .second), of .sound) at e in
       (h, h)
 
@@ -229,14 +229,14 @@ module _ (m : Machine) where
 
   module _ (d x y : ℕ) {a b : Register} {r : Ring} {s t : Sharing} (left : a ≡ registerAt m x) (right : b ≡ registerAt m y)
       (ring : r ≡ ringAt (kindOf a)) (shares : s ≡ sharesOf a) (others : t ≡ sharesOf b) where
-    pub add-sources : kindly (Add d x y) m ≡ 0 → InRange (modulusOf r) s × InRange (modulusOf r) t
+    pub add-sources : recordRefusal (Add d x y) m ≡ 0 → InRange (modulusOf r) s × InRange (modulusOf r) t
     add-sources fine =
         let o = Add d x y in (
           pair-left x y (good o fine) (kinds o fine) left right ring shares others,
           pair-right x y (good o fine) (kinds o fine) left right ring shares others,
         )
 
-    pub add-prepares : {z : Sharing} → kindly (Add d x y) m ≡ 0 → z ≡ addedTo (modulusOf r) s t → Prepares (Add d x y) m d (Local (Number r z))
+    pub add-prepares : {z : Sharing} → recordRefusal (Add d x y) m ≡ 0 → z ≡ addedTo (modulusOf r) s t → Prepares (Add d x y) m d (Local (Number r z))
     unfolding addition result ends
     add-prepares {z} fine e =
         let o = Add d x y in
@@ -246,7 +246,7 @@ module _ (m : Machine) where
         (λ T. ap (Number r) (rw (sym left, sym right, sym shares, sym others) (sym e)))
         (seated m (good o fine) d (x ∷ y ∷ []) (there o fine))
 
-    pub multiply-prepares : kindly (Multiply d x y) m ≡ 0 → Prepares (Multiply d x y) m d (Gates (task.Multiply r s t))
+    pub multiply-prepares : recordRefusal (Multiply d x y) m ≡ 0 → Prepares (Multiply d x y) m d (Gates (task.Multiply r s t))
     multiply-prepares fine =
         let o = Multiply d x y in
         gated o m d x y (task.Multiply r s t) fine
@@ -259,13 +259,13 @@ module _ (m : Machine) where
           right = pair-right x y (good o fine) (kinds o fine) left right ring shares others;
         })
 
-  pub compose-kindly : (d x f : ℕ) {s t : Bool} {a : Register} {v : ℕ} → Sources m s x a x a → t ≡ noRing (ringOf f)
+  pub compose-refusal : (d x f : ℕ) {s t : Bool} {a : Register} {v : ℕ} → Sources m s x a x a → t ≡ noRing (ringOf f)
       → v ≡ firstMet (beginChecks s (d ∷ x ∷ []) ++ (check (isEmpty (kindOf a)) 3 ∷ check (isNumber (kindOf a)) 4 ∷ check t 5 ∷ []))
-      → v ≡ kindly (Compose d x f) m
-  unfolding kindly
-  compose-kindly d x f of e h = rw (e, kind-of x (of .first), of .sound) at h
+      → v ≡ recordRefusal (Compose d x f) m
+  unfolding recordRefusal
+  compose-refusal d x f of e h = rw (e, kind-of x (of .first), of .sound) at h
 
-  pub compose-prepares : (d x f : ℕ) {a : Register} {g : Ring} {s : Sharing} {l : ℕ} → kindly (Compose d x f) m ≡ 0 → a ≡ registerAt m x
+  pub compose-prepares : (d x f : ℕ) {a : Register} {g : Ring} {s : Sharing} {l : ℕ} → recordRefusal (Compose d x f) m ≡ 0 → a ≡ registerAt m x
       → g ≡ ringAt (numberKind (ringOf f)) → s ≡ sharesOf a → l ≡ countAt (kindOf a)
       → Prepares (Compose d x f) m d (Gates (task.Compose g s l))
   compose-prepares d x f {a} {g} {s} {l} fine at other shares count =

@@ -18,13 +18,13 @@ use Rattle.machine.specs.declared.orders.Order.{Order}
 use Rattle.machine.specs.declared.registers.Machine.{Machine}
 use Rattle.machine.specs.declared.registers.Register.{Register}
 use Rattle.order.specs.Answers.{firstOf, numberOf, verdictOf}
-use Rattle.order.specs.Attempts.{Prepares, attempted, beginChecks, kindly, lengthVerdict, masksLeft, ran, tried}
+use Rattle.order.specs.Attempts.{Prepares, attempted, beginChecks, recordRefusal, lengthVerdict, masksLeft, ran, tried}
 use Rattle.order.specs.Tasks.{Fit, Seated, circuitOf, kindLeft, otherOf, sourceOf}
 use Rattle.order.specs.declared.answers.Verdict.{Verdict}
 use Rattle.order.specs.declared.answers.Verdict.the-variants as verdict
 use Rattle.order.specs.declared.tasks.Prepared.the-variants.{Because, Gates, Local}
 use Rattle.order.specs.declared.tasks.Task.{Task}
-use Rattle.order.proofs.KindlyLaw.{joined, kindly-then}
+use Rattle.order.proofs.CheckLaw.{joined, record-then}
 use Rattle.order.proofs.VerdictLaw.{first-refusal, numbered}
 
 -- a verdict that is none leaves the last check to decide
@@ -97,14 +97,14 @@ module _ (m : Machine) (d x y : ℕ) where
       ∙ ap (λ (q : Outcome). cond (eqb first 0) (cond bad (refused 10 m c) q) (refused first m c)) (ran-is t (leftOf p (tapes D T)) c left right)
 
 module _ (o : Order) (m : Machine) where
-  checks-split : (T : Tapes) (c : Place → List ℕ) → firstMet (checks o m T c) ≡ firstOf (kindly o m) (firstMet (laterChecks (workOf o (publicOf m)) m T c))
+  checks-split : (T : Tapes) (c : Place → List ℕ) → firstMet (checks o m T c) ≡ firstOf (recordRefusal o m) (firstMet (laterChecks (workOf o (publicOf m)) m T c))
   unfolding checks publicChecks
   checks-split T c =
       ap (λ (l : List Check). firstMet (beginChecks (sound m) (named o) ++ l))
       (append-assoc (kindChecks o (publicOf m)) (lengthChecks (workOf o (publicOf m)) (publicOf m) (lengthsOf T c)) _)
-      ∙ kindly-then m o (laterChecks (workOf o (publicOf m)) m T c)
+      ∙ record-then m o (laterChecks (workOf o (publicOf m)) m T c)
 
-  step-refused : (w : Refusal) → kindly o m ≡ numberOf w → (T : Tapes) (c : Place → List ℕ) → step o m T c ≡ refused (numberOf w) m c
+  step-refused : (w : Refusal) → recordRefusal o m ≡ numberOf w → (T : Tapes) (c : Place → List ℕ) → step o m T c ≡ refused (numberOf w) m c
   unfolding step
   step-refused w e T c =
       let later = firstMet (laterChecks (workOf o (publicOf m)) m T c) in
@@ -112,19 +112,19 @@ module _ (o : Order) (m : Machine) where
       = checks-split T c ∙ ap (λ (n : ℕ). firstOf n later) e ∙ sym (first-refusal w later) in
       rw (is, numbered w)
 
-  step-later : kindly o m ≡ 0 → (T : Tapes) (c : Place → List ℕ) → step o m T c ≡ later (workOf o (publicOf m)) m T c
+  step-later : recordRefusal o m ≡ 0 → (T : Tapes) (c : Place → List ℕ) → step o m T c ≡ later (workOf o (publicOf m)) m T c
   unfolding step
   step-later e T c = rw (checks-split T c, e)
 
   -- refused for its kinds
-  pub because : (d : ℕ) {v : Verdict} {w : Refusal} → verdictOf v ≡ kindly o m → v ≡ verdict.Because w → Prepares o m d (Because w)
+  pub because : (d : ℕ) {v : Verdict} {w : Refusal} → verdictOf v ≡ recordRefusal o m → v ≡ verdict.Because w → Prepares o m d (Because w)
   unfolding attempted
   because d {v} {w} e h =
       record { is = λ D T c. step-refused w (sym e ∙ ap verdictOf h) (record { masks = T; dealer = D }) c; ready = tt }
 
   -- place by place: a circuit with no gates
   pub locally : (C : Circuit) (d x y : ℕ) (kind : Kind) (r : Register)
-      → kindly o m ≡ 0
+      → recordRefusal o m ≡ 0
       → workOf o (publicOf m) ≡ adjusts C d x y kind
       → C .gates ≡ []
       → ((T : Place → List ℕ) → registerOf kind (sharing (result C (parts (sharesOf (registerAt m x))) (parts (sharesOf (registerAt m y))) T)) ≡ r)
@@ -142,7 +142,7 @@ module _ (o : Order) (m : Machine) where
 
   -- with gates
   pub gated : (d x y : ℕ) (t : Task)
-      → kindly o m ≡ 0
+      → recordRefusal o m ≡ 0
       → workOf o (publicOf m) ≡ computes (circuitOf t) d x y (kindLeft t)
       → sharesOf (registerAt m x) ≡ sourceOf t
       → sharesOf (registerAt m y) ≡ otherOf t

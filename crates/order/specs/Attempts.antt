@@ -24,8 +24,8 @@ abbrev pub beginChecks : Bool → List ℕ → List Check
 beginChecks sure names = check (not sure) 1 ∷ check (anyAbove15 names) 2 ∷ []
 
 -- and the checks of kinds, rings and the order's own numbers
-unfoldable pub kindly : Order → Machine → ℕ
-kindly o m = firstMet (beginChecks (sound m) (named o) ++ kindChecks o (publicOf m))
+unfoldable pub recordRefusal : Order → Machine → ℕ
+recordRefusal o m = firstMet (beginChecks (sound m) (named o) ++ kindChecks o (publicOf m))
 
 -- what orders read of a record: whether it is sound, and registers x and y
 pub record Sources (m : Machine) (sure : Bool) (x : ℕ) (a : Register) (y : ℕ) (b : Register) : Type 0 where

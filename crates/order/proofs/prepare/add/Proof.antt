@@ -3,22 +3,22 @@ use borrow.Author.Needs.{needs}
 use Rattle.machine.specs.declared.orders.Order.the-variants.{Add}
 use Rattle.machine.specs.declared.registers.Machine.{Machine}
 use Rattle.order.specs.Answers.{verdictOf}
-use Rattle.order.specs.Attempts.{Sources, kindly}
-use Rattle.order.proofs.PrepareLaw.{add-prepares, add-sources, pair-kindly}
+use Rattle.order.specs.Attempts.{Sources, recordRefusal}
+use Rattle.order.proofs.PrepareLaw.{add-prepares, add-sources, pair-refusal}
 use Rattle.order.proofs.StepLaw.{because}
 use Rattle.order.proofs.prepare.add.Statement.{statement}
 use Rattle.order.proofs.prepare.add.Tie as tie
 
 kinds : (c : tie.After-pair-why)
     → let a = c .before .args in
-    (m : Machine) → Sources m (a .sound) (a .x) (a .a) (a .y) (a .b) → verdictOf (c .pair-why .result) ≡ kindly (Add (a .d) (a .x) (a .y)) m
+    (m : Machine) → Sources m (a .sound) (a .x) (a .a) (a .y) (a .b) → verdictOf (c .pair-why .result) ≡ recordRefusal (Add (a .d) (a .x) (a .y)) m
 kinds c m of =
     let a = c .before .args in
-    pair-kindly m (a .d) (a .x) (a .y) of (c .pair-why .ensures) .0
+    pair-refusal m (a .d) (a .x) (a .y) of (c .pair-why .ensures) .0
 
 fine : (c : tie.After-enum-told)
     → let a = c .before .before .before .args in
-    (m : Machine) → Sources m (a .sound) (a .x) (a .a) (a .y) (a .b) → kindly (Add (a .d) (a .x) (a .y)) m ≡ 0
+    (m : Machine) → Sources m (a .sound) (a .x) (a .a) (a .y) (a .b) → recordRefusal (Add (a .d) (a .x) (a .y)) m ≡ 0
 fine c m of = sym (kinds (c .before .before) m of) ∙ ap verdictOf (c .enum-told .given .1)
 
 refusal : tie.Need-returns

@@ -3,18 +3,18 @@ use borrow.Author.Needs.{needs}
 use Rattle.machine.specs.declared.orders.Order.the-variants.{Compose}
 use Rattle.machine.specs.declared.registers.Machine.{Machine}
 use Rattle.order.specs.Answers.{verdictOf}
-use Rattle.order.specs.Attempts.{Sources, kindly}
-use Rattle.order.proofs.PrepareLaw.{compose-kindly, compose-prepares}
+use Rattle.order.specs.Attempts.{Sources, recordRefusal}
+use Rattle.order.proofs.PrepareLaw.{compose-refusal, compose-prepares}
 use Rattle.order.proofs.StepLaw.{because}
 use Rattle.order.proofs.prepare.compose.Statement.{statement}
 use Rattle.order.proofs.prepare.compose.Tie as tie
 
 kinds : (c : tie.After-bits-why)
     → let a = c .before .before .args in
-    (m : Machine) → Sources m (a .sound) (a .x) (a .a) (a .x) (a .a) → verdictOf (c .bits-why .result) ≡ kindly (Compose (a .d) (a .x) (a .f)) m
+    (m : Machine) → Sources m (a .sound) (a .x) (a .a) (a .x) (a .a) → verdictOf (c .bits-why .result) ≡ recordRefusal (Compose (a .d) (a .x) (a .f)) m
 kinds c m of =
     let a = c .before .before .args in
-    compose-kindly m (a .d) (a .x) (a .f) of (c .before .no-ring .ensures) (c .bits-why .ensures)
+    compose-refusal m (a .d) (a .x) (a .f) of (c .before .no-ring .ensures) (c .bits-why .ensures)
 
 refusal : tie.Need-returns
 refusal c = λ m of.

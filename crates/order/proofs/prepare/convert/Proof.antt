@@ -3,18 +3,18 @@ use borrow.Author.Needs.{needs}
 use Rattle.machine.specs.declared.orders.Order.the-variants.{Convert}
 use Rattle.machine.specs.declared.registers.Machine.{Machine}
 use Rattle.order.specs.Answers.{verdictOf}
-use Rattle.order.specs.Attempts.{Sources, kindly}
-use Rattle.order.proofs.PrepareLaw.{convert-kindly, convert-prepares}
+use Rattle.order.specs.Attempts.{Sources, recordRefusal}
+use Rattle.order.proofs.PrepareLaw.{convert-refusal, convert-prepares}
 use Rattle.order.proofs.StepLaw.{because}
 use Rattle.order.proofs.prepare.convert.Statement.{statement}
 use Rattle.order.proofs.prepare.convert.Tie as tie
 
 kinds : (c : tie.After-number-why)
     → let a = c .before .before .args in
-    (m : Machine) → Sources m (a .sound) (a .x) (a .a) (a .x) (a .a) → verdictOf (c .number-why .result) ≡ kindly (Convert (a .d) (a .x) (a .f)) m
+    (m : Machine) → Sources m (a .sound) (a .x) (a .a) (a .x) (a .a) → verdictOf (c .number-why .result) ≡ recordRefusal (Convert (a .d) (a .x) (a .f)) m
 kinds c m of =
     let a = c .before .before .args in
-    convert-kindly m (a .d) (a .x) (a .f) of (c .before .no-ring .ensures) (c .number-why .ensures)
+    convert-refusal m (a .d) (a .x) (a .f) of (c .before .no-ring .ensures) (c .number-why .ensures)
 
 refusal : tie.Need-returns
 refusal c = λ m of.

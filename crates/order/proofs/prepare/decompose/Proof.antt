@@ -3,18 +3,18 @@ use borrow.Author.Needs.{needs}
 use Rattle.machine.specs.declared.orders.Order.the-variants.{Decompose}
 use Rattle.machine.specs.declared.registers.Machine.{Machine}
 use Rattle.order.specs.Answers.{verdictOf}
-use Rattle.order.specs.Attempts.{Sources, kindly}
-use Rattle.order.proofs.PrepareLaw.{decompose-kindly, decompose-prepares}
+use Rattle.order.specs.Attempts.{Sources, recordRefusal}
+use Rattle.order.proofs.PrepareLaw.{decompose-refusal, decompose-prepares}
 use Rattle.order.proofs.StepLaw.{because}
 use Rattle.order.proofs.prepare.decompose.Statement.{statement}
 use Rattle.order.proofs.prepare.decompose.Tie as tie
 
 kinds : (c : tie.After-number-why)
     → let a = c .before .before .before .args in
-    (m : Machine) → Sources m (a .sound) (a .x) (a .a) (a .x) (a .a) → verdictOf (c .number-why .result) ≡ kindly (Decompose (a .d) (a .x) (a .l)) m
+    (m : Machine) → Sources m (a .sound) (a .x) (a .a) (a .x) (a .a) → verdictOf (c .number-why .result) ≡ recordRefusal (Decompose (a .d) (a .x) (a .l)) m
 kinds c m of =
     let a = c .before .before .before .args in
-    decompose-kindly m (a .d) (a .x) (a .l) of (c .before .before .width .ensures) (c .before .less .ensures) (c .number-why .ensures)
+    decompose-refusal m (a .d) (a .x) (a .l) of (c .before .before .width .ensures) (c .before .less .ensures) (c .number-why .ensures)
 
 refusal : tie.Need-returns
 refusal c = λ m of.

@@ -3,18 +3,18 @@ use borrow.Author.Needs.{needs}
 use Rattle.machine.specs.declared.orders.Order.the-variants.{Multiply}
 use Rattle.machine.specs.declared.registers.Machine.{Machine}
 use Rattle.order.specs.Answers.{verdictOf}
-use Rattle.order.specs.Attempts.{Sources, kindly}
-use Rattle.order.proofs.PrepareLaw.{multiply-prepares, pair-kindly}
+use Rattle.order.specs.Attempts.{Sources, recordRefusal}
+use Rattle.order.proofs.PrepareLaw.{multiply-prepares, pair-refusal}
 use Rattle.order.proofs.StepLaw.{because}
 use Rattle.order.proofs.prepare.multiply.Statement.{statement}
 use Rattle.order.proofs.prepare.multiply.Tie as tie
 
 kinds : (c : tie.After-pair-why)
     → let a = c .before .args in
-    (m : Machine) → Sources m (a .sound) (a .x) (a .a) (a .y) (a .b) → verdictOf (c .pair-why .result) ≡ kindly (Multiply (a .d) (a .x) (a .y)) m
+    (m : Machine) → Sources m (a .sound) (a .x) (a .a) (a .y) (a .b) → verdictOf (c .pair-why .result) ≡ recordRefusal (Multiply (a .d) (a .x) (a .y)) m
 kinds c m of =
     let a = c .before .args in
-    pair-kindly m (a .d) (a .x) (a .y) of (c .pair-why .ensures) .1
+    pair-refusal m (a .d) (a .x) (a .y) of (c .pair-why .ensures) .1
 
 refusal : tie.Need-returns
 refusal c = λ m of.

@@ -3,22 +3,22 @@ use borrow.Author.Needs.{needs}
 use Rattle.machine.specs.declared.orders.Order.the-variants.{Scale}
 use Rattle.machine.specs.declared.registers.Machine.{Machine}
 use Rattle.order.specs.Answers.{verdictOf}
-use Rattle.order.specs.Attempts.{Sources, kindly}
-use Rattle.order.proofs.PrepareLaw.{scale-factor, scale-kindly, scale-prepares, scale-source}
+use Rattle.order.specs.Attempts.{Sources, recordRefusal}
+use Rattle.order.proofs.PrepareLaw.{scale-factor, scale-refusal, scale-prepares, scale-source}
 use Rattle.order.proofs.StepLaw.{because}
 use Rattle.order.proofs.prepare.scale.Statement.{statement}
 use Rattle.order.proofs.prepare.scale.Tie as tie
 
 kinds : (c : tie.After-number-why)
     → let a = c .before .before .args in
-    (m : Machine) → Sources m (a .sound) (a .x) (a .a) (a .x) (a .a) → verdictOf (c .number-why .result) ≡ kindly (Scale (a .d) (a .x) (a .c)) m
+    (m : Machine) → Sources m (a .sound) (a .x) (a .a) (a .x) (a .a) → verdictOf (c .number-why .result) ≡ recordRefusal (Scale (a .d) (a .x) (a .c)) m
 kinds c m of =
     let a = c .before .before .args in
-    scale-kindly m (a .d) (a .x) (a .c) of (c .before .modulus .ensures) (c .number-why .ensures)
+    scale-refusal m (a .d) (a .x) (a .c) of (c .before .modulus .ensures) (c .number-why .ensures)
 
 fine : (c : tie.After-enum-told)
     → let a = c .before .before .before .before .args in
-    (m : Machine) → Sources m (a .sound) (a .x) (a .a) (a .x) (a .a) → kindly (Scale (a .d) (a .x) (a .c)) m ≡ 0
+    (m : Machine) → Sources m (a .sound) (a .x) (a .a) (a .x) (a .a) → recordRefusal (Scale (a .d) (a .x) (a .c)) m ≡ 0
 fine c m of = sym (kinds (c .before .before) m of) ∙ ap verdictOf (c .enum-told .given .1)
 
 refusal : tie.Need-returns

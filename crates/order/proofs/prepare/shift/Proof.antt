@@ -3,18 +3,18 @@ use borrow.Author.Needs.{needs}
 use Rattle.machine.specs.declared.orders.Order.the-variants.{Shift}
 use Rattle.machine.specs.declared.registers.Machine.{Machine}
 use Rattle.order.specs.Answers.{verdictOf}
-use Rattle.order.specs.Attempts.{Sources, kindly}
-use Rattle.order.proofs.PrepareLaw.{shift-kindly, shift-prepares}
+use Rattle.order.specs.Attempts.{Sources, recordRefusal}
+use Rattle.order.proofs.PrepareLaw.{shift-refusal, shift-prepares}
 use Rattle.order.proofs.StepLaw.{because}
 use Rattle.order.proofs.prepare.shift.Statement.{statement}
 use Rattle.order.proofs.prepare.shift.Tie as tie
 
 kinds : (c : tie.After-number-why)
     → let a = c .before .before .before .args in
-    (m : Machine) → Sources m (a .sound) (a .x) (a .a) (a .x) (a .a) → verdictOf (c .number-why .result) ≡ kindly (Shift (a .d) (a .x) (a .s)) m
+    (m : Machine) → Sources m (a .sound) (a .x) (a .a) (a .x) (a .a) → verdictOf (c .number-why .result) ≡ recordRefusal (Shift (a .d) (a .x) (a .s)) m
 kinds c m of =
     let a = c .before .before .before .args in
-    shift-kindly m (a .d) (a .x) (a .s) of (c .before .before .width .ensures) (c .before .less .ensures) (c .number-why .ensures)
+    shift-refusal m (a .d) (a .x) (a .s) of (c .before .before .width .ensures) (c .before .less .ensures) (c .number-why .ensures)
 
 refusal : tie.Need-returns
 refusal c = λ m of.

@@ -1,5 +1,5 @@
 use borrow.Author.Needs.{needs}
-use Rattle.order.proofs.KindlyLaw.{then-joined}
+use Rattle.order.proofs.CheckLaw.{then-joined}
 use Rattle.order.proofs.verdicts.pair_why.Statement.{statement}
 use Rattle.order.proofs.verdicts.pair_why.Tie as tie
 

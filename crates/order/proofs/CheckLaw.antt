@@ -10,7 +10,7 @@ use Rattle.machine.specs.declared.orders.Order.{Order}
 use Rattle.machine.specs.declared.orders.Order.the-variants.{Add, Compose, Convert, Deal, Decompose, Multiply, Open, Scale, Shift}
 use Rattle.machine.specs.declared.registers.Machine.{Machine}
 use Rattle.order.specs.Answers.{firstOf}
-use Rattle.order.specs.Attempts.{beginChecks, kindly}
+use Rattle.order.specs.Attempts.{beginChecks, recordRefusal}
 
 -- no check of the list refuses with 0
 abbrev pub refusing : List Check → Bool
@@ -54,9 +54,9 @@ begin-refuses m (Open x) = tt
 
 module _ (m : Machine) (o : Order) where
   -- then the rest
-  pub kindly-then : (rest : List Check) → firstMet ((beginChecks (sound m) (named o) ++ kindChecks o (publicOf m)) ++ rest) ≡ firstOf (kindly o m) (firstMet rest)
-  unfolding kindly
-  kindly-then rest = joined (beginChecks (sound m) (named o) ++ kindChecks o (publicOf m)) rest (begin-refuses m o)
+  pub record-then : (rest : List Check) → firstMet ((beginChecks (sound m) (named o) ++ kindChecks o (publicOf m)) ++ rest) ≡ firstOf (recordRefusal o m) (firstMet rest)
+  unfolding recordRefusal
+  record-then rest = joined (beginChecks (sound m) (named o) ++ kindChecks o (publicOf m)) rest (begin-refuses m o)
 
 -- a register that is named twice
 pub begin-twice : (sure : Bool) (d x : ℕ) {v : ℕ} → v ≡ firstMet (beginChecks sure (d ∷ x ∷ x ∷ [])) → v ≡ firstMet (beginChecks sure (d ∷ x ∷ []))
