@@ -1,3 +1,4 @@
 pub mod Gates
+pub mod Lent
 pub mod Places
 pub mod Theorems

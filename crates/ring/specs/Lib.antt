@@ -1,3 +1,4 @@
+pub mod Lent
 pub mod Modular
 pub mod Rings
 pub mod Theorems
