@@ -1,7 +1,8 @@
 -- The facts about what jobs print (specs/Theorems.antt).
-use Prim.Native.Nat.{ℕ, suc}
-use mathlib.Core.List.{List, [], _∷_, _++_, append-assoc}
-use mathlib.Core.Path.{_≡_, ap, refl}
+use Prim.Native.Nat.{ℕ, suc, _≤_}
+use mathlib.Core.List.{List, [], _∷_, _++_, append-assoc, append-nil, flatten}
+use mathlib.Core.Logic.{inl, inr}
+use mathlib.Core.Path.{_≡_, ap, refl, sym, _∙_}
 use native.Mathlib.Omega.{arith}
 use lib.Dec.{eqb}
 use lib.ListN.{length}
@@ -10,7 +11,7 @@ use Rattle.ring.specs.Rings.{modulus, ringOf}
 use Rattle.gate.specs.Places.{total}
 use Rattle.machine.specs.Checks.{anyAbove15, firstMet, publicChecks}
 use Rattle.machine.specs.Orders.{ofKind}
-use Rattle.machine.specs.Registers.{emptyMachine, registerAt, sound, soundRegister, soundSlots, withRegister}
+use Rattle.machine.specs.Registers.{emptyMachine, million, registerAt, sound, soundRegister, soundSlots, withRegister}
 use Rattle.machine.specs.Step.{checks, dealt, opened, step}
 use Rattle.line.specs.Lines.{
   allDigits,
@@ -30,7 +31,7 @@ use Rattle.line.specs.Readings.{byteOn}
 use Rattle.line.specs.declared.commands.Command.{Command}
 use Rattle.line.proofs.FieldLaw.{split}
 use Rattle.session.specs.Outputs.{State, declined, itemTaken, ordered, output, outputFrom, started, taken}
-use Rattle.session.specs.Standings.{afterBytes, afterEnd, printedAt, printedBy, readTo}
+use Rattle.session.specs.Standings.{Standing, afterBytes, afterEnd, begun, printedAt, printedBy, printedFor, printedLast, readTo}
 use Rattle.session.specs.Theorems as theorem
 use Rattle.session.proofs.OutputLaw as outputs
 use Rattle.session.proofs.RecordLaw.{empty-in}
@@ -52,6 +53,27 @@ in-chunks w (b ∷ xs) ys =
 
 pub stops : theorem.Stops
 stops = outputs.stops
+
+-- what chunks print is what their bytes print
+in-all : (w : Standing) (chunks : List (List ℕ))
+    → printedFor w chunks ≡ printedBy w (flatten chunks) ++ printedLast (afterBytes w (flatten chunks))
+unfolding flatten printedBy printedFor afterBytes
+in-all w [] = refl
+in-all w (c ∷ cs) = let cut = in-chunks w c (flatten cs) in rw (in-all (afterBytes w c) cs, cut .0, cut .1, append-assoc) refl
+
+-- once reading has stopped, the rest of the input and its end print nothing
+rest-unread : (bytes rest : List ℕ) → million ≤ afterBytes begun bytes .lines
+    → printedBy begun bytes ++ printedLast (afterBytes begun bytes) ≡ output (bytes ++ rest)
+unfolding afterBytes
+rest-unread bytes rest late =
+    let v = afterBytes begun bytes in
+    let cut = in-chunks begun bytes rest in
+    let none = append-nil (printedBy begun bytes) in
+    rw (← output-printed (bytes ++ rest), cut .0, cut .1, stops v late rest .0, stops v late rest .1, stops v late [] .1, none, none) refl
+
+pub whole : theorem.Whole
+whole chunks rest (inl e) = in-all begun chunks ∙ output-printed (flatten chunks) ∙ sym (ap output (rw (e, append-nil) refl))
+whole chunks rest (inr late) = in-all begun chunks ∙ rest-unread (flatten chunks) rest late
 
 pub starts : theorem.Starts
 unfolding started

@@ -3,7 +3,10 @@ use Prim.Native.Nat.{ℕ, _≤_}
 use mathlib.Core.Bool.{true}
 use mathlib.Core.List.{List}
 use mathlib.Core.Path.{_≡_}
+use denote.Ref.{RefT}
+use denote.Triple.Both.{Both}
 use lib.ListN.{drop, length, replicate, take}
+use Rattle.gate.specs.Lent.{atEntry, atExit}
 use Rattle.gate.specs.Places.{Place}
 use Rattle.machine.specs.Registers.{emptyMachine, sound}
 use Rattle.machine.specs.declared.registers.Machine.{Machine}
@@ -43,6 +46,15 @@ turnedOf t ws t₀ t₁ t₂ dealer c = turned (stateOf (t .counts) ws t₀ t₁
 
 abbrev pub standingOf : Progress → (ws t₀ t₁ t₂ dealer : List ℕ) → (Place → List ℕ) → Standing
 standingOf p ws t₀ t₁ t₂ dealer c = standing (stateOf (p .counts) ws t₀ t₁ t₂ dealer c) (p .lines) (p .reading)
+
+-- and with the runs that are lent to a call, at its entry and at its exit
+abbrev pub entering : {X : Type 0} → Progress → (ws t₀ t₁ t₂ dealer c₀ c₁ c₂ : Both (RefT (List ℕ)) X) → Standing
+entering p ws t₀ t₁ t₂ dealer c₀ c₁ c₂ =
+    standingOf p (ws .entry .now) (t₀ .entry .now) (t₁ .entry .now) (t₂ .entry .now) (dealer .entry .now) (atEntry c₀ c₁ c₂)
+
+abbrev pub leaving : {E : Type 0} → Progress → (ws t₀ t₁ t₂ dealer c₀ c₁ c₂ : Both E (RefT (List ℕ))) → Standing
+leaving p ws t₀ t₁ t₂ dealer c₀ c₁ c₂ =
+    standingOf p (ws .exit .now) (t₀ .exit .now) (t₁ .exit .now) (t₂ .exit .now) (dealer .exit .now) (atExit c₀ c₁ c₂)
 
 -- the record's words say a record, and a sound one
 pub record RecordFits (ws : List ℕ) : Type 0 where

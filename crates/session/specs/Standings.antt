@@ -60,6 +60,11 @@ printedLast w = cond (w .reading .seen) (printedAt w) []
 unfoldable pub afterLast : Standing → Standing
 afterLast w = cond (w .reading .seen) (afterEnd w) w
 
+-- what is printed for chunks, one after the other, and then at the end of input
+unfoldable pub printedFor : Standing → List (List ℕ) → List ℕ
+printedFor w [] = printedLast w
+printedFor w (c ∷ cs) = printedBy w c ++ printedFor (afterBytes w c) cs
+
 -- Part of a chunk is done with: the job stood at w before xs and stands at v before ys, and what was printed between is written.
 pub record Advanced (w : Standing) (xs : List ℕ) (v : Standing) (ys : List ℕ) (at : ℕ) (entry exit : List ℕ) (next : ℕ) : Type 0 where
   pub bytes : List ℕ

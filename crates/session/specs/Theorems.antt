@@ -1,6 +1,7 @@
 -- Facts about what whole jobs print, for all bytes of input. Proofs: proofs/Theorems.antt.
 use Prim.Native.Nat.{ℕ, _+_, _≤_}
-use mathlib.Core.List.{List, [], _∷_, _++_}
+use mathlib.Core.List.{List, [], _∷_, _++_, flatten}
+use mathlib.Core.Logic.{_⊎_}
 use mathlib.Core.Path.{_≡_}
 use lib.ListN.{length, replicate}
 use Rattle.gate.specs.Places.{p0, three}
@@ -10,7 +11,7 @@ use Rattle.line.specs.Printed.{printed}
 use Rattle.line.specs.declared.commands.Command.the-variants.{Dealer, Masks, Unreadable}
 use Rattle.session.specs.Kept.{atLine, emptyWords, noLines, standingOf}
 use Rattle.session.specs.Outputs.{State, most, output, outputFrom, zeroWords}
-use Rattle.session.specs.Standings.{Standing, afterBytes, begun, printedBy, printedLast}
+use Rattle.session.specs.Standings.{Standing, afterBytes, begun, printedBy, printedFor, printedLast}
 
 -- read byte by byte to the end of input, a job prints its output
 abbrev pub Output : Type 0
@@ -21,6 +22,12 @@ abbrev pub InChunks : Type 0
 InChunks = (w : Standing) (xs ys : List ℕ)
     → (printedBy w (xs ++ ys) ≡ printedBy w xs ++ printedBy (afterBytes w xs) ys)
     × (afterBytes w (xs ++ ys) ≡ afterBytes (afterBytes w xs) ys)
+
+-- A whole job in chunks: together they print the output of all its bytes. After line 1,000,000 the rest need not be read.
+abbrev pub Whole : Type 0
+Whole = (chunks : List (List ℕ)) (rest : List ℕ)
+    → (rest ≡ []) ⊎ (million ≤ afterBytes begun (flatten chunks) .lines)
+    → printedFor begun chunks ≡ output (flatten chunks ++ rest)
 
 -- "Reading stops after line 1,000,000": what follows prints nothing
 abbrev pub Stops : Type 0

@@ -2,9 +2,9 @@
 ghost use mathlib.Core.Path.{_≡_};
 ghost use Prim.Native.Nat.{_+_, _*_, _≤_, _<_};
 ghost use lib.ListN.{drop, length};
-ghost use Rattle.gate.specs.Places.{three};
+ghost use Rattle.gate.specs.Lent.{atEntry, atExit};
 ghost use Rattle.line.specs.Printed.{Wrote};
-ghost use Rattle.session.specs.Kept.{DealerFits, Grown, MasksFit, RecordFits, standingOf};
+ghost use Rattle.session.specs.Kept.{DealerFits, Grown, MasksFit, RecordFits, entering, leaving};
 ghost use Rattle.session.specs.Standings.{Advanced, afterBytes, afterEnd, afterLast, printedAt, printedBy, printedLast};
 use crate::progress::Progress;
 use crate::replies::print_reply;
@@ -45,13 +45,13 @@ fn end_line(
     requires masks { ⌜ MasksFit (p .counts) (now m0) (now m1) (now m2) ⌝ }
     requires dealer { ⌜ DealerFits (p .counts) (now dealer) ⌝ }
     requires room { ⌜ at + 105 ≤ length (now out) ⌝ }
-    ensures is { λ r. ⌜ standingOf (r .progress) (now («record» .exit)) (now (m0 .exit)) (now (m1 .exit)) (now (m2 .exit)) (now (dealer .exit)) (three (now (c0 .exit)) (now (c1 .exit)) (now (c2 .exit))) ≡ afterEnd (standingOf p (now («record» .entry)) (now (m0 .entry)) (now (m1 .entry)) (now (m2 .entry)) (now (dealer .entry)) (three (now (c0 .entry)) (now (c1 .entry)) (now (c2 .entry)))) ⌝ }
-    ensures writes { λ r. ⌜ Wrote at (printedAt (standingOf p (now («record» .entry)) (now (m0 .entry)) (now (m1 .entry)) (now (m2 .entry)) (now (dealer .entry)) (three (now (c0 .entry)) (now (c1 .entry)) (now (c2 .entry))))) (now (out .entry)) (now (out .exit)) (r .at) ⌝ }
+    ensures is { λ r. ⌜ leaving (r .progress) «record» m0 m1 m2 dealer c0 c1 c2 ≡ afterEnd (entering p «record» m0 m1 m2 dealer c0 c1 c2) ⌝ }
+    ensures writes { λ r. ⌜ Wrote at (printedAt (entering p «record» m0 m1 m2 dealer c0 c1 c2)) (now (out .entry)) (now (out .exit)) (r .at) ⌝ }
     ensures short { λ r. ⌜ r .at ≤ at + 105 ⌝ }
     ensures machine { λ r. ⌜ RecordFits (now («record» .exit)) ⌝ }
     ensures masks { λ r. ⌜ MasksFit (r .progress .counts) (now (m0 .exit)) (now (m1 .exit)) (now (m2 .exit)) ⌝ }
     ensures dealer { λ r. ⌜ DealerFits (r .progress .counts) (now (dealer .exit)) ⌝ }
-    ensures rest { λ r. ⌜ Grown (p .counts) (r .progress .counts) (three (now (m0 .entry)) (now (m1 .entry)) (now (m2 .entry))) (three (now (m0 .exit)) (now (m1 .exit)) (now (m2 .exit))) (now (dealer .entry)) (now (dealer .exit)) ⌝ }
+    ensures rest { λ r. ⌜ Grown (p .counts) (r .progress .counts) (atEntry m0 m1 m2) (atExit m0 m1 m2) (now (dealer .entry)) (now (dealer .exit)) ⌝ }
 {
     let counts = p.counts;
     if LAST_LINE <= p.lines {
@@ -94,14 +94,14 @@ fn take_one(
     requires dealer { ⌜ DealerFits (p .counts) (now dealer) ⌝ }
     requires inside { ⌜ i < length (now buf) ⌝ }
     requires room { ⌜ at + 105 ≤ length (now out) ⌝ }
-    ensures is { λ r. ⌜ Advanced (standingOf p (now («record» .entry)) (now (m0 .entry)) (now (m1 .entry)) (now (m2 .entry)) (now (dealer .entry)) (three (now (c0 .entry)) (now (c1 .entry)) (now (c2 .entry)))) (drop i (now (buf .entry))) (standingOf (r .progress) (now («record» .exit)) (now (m0 .exit)) (now (m1 .exit)) (now (m2 .exit)) (now (dealer .exit)) (three (now (c0 .exit)) (now (c1 .exit)) (now (c2 .exit)))) (drop (r .next) (now (buf .entry))) at (now (out .entry)) (now (out .exit)) (r .at) ⌝ }
+    ensures is { λ r. ⌜ Advanced (entering p «record» m0 m1 m2 dealer c0 c1 c2) (drop i (now (buf .entry))) (leaving (r .progress) «record» m0 m1 m2 dealer c0 c1 c2) (drop (r .next) (now (buf .entry))) at (now (out .entry)) (now (out .exit)) (r .at) ⌝ }
     ensures further { λ r. ⌜ i < r .next ⌝ }
     ensures within { λ r. ⌜ r .next ≤ length (now (buf .entry)) ⌝ }
     ensures short { λ r. ⌜ r .at + 105 * i ≤ at + 105 * r .next ⌝ }
     ensures machine { λ r. ⌜ RecordFits (now («record» .exit)) ⌝ }
     ensures masks { λ r. ⌜ MasksFit (r .progress .counts) (now (m0 .exit)) (now (m1 .exit)) (now (m2 .exit)) ⌝ }
     ensures dealer { λ r. ⌜ DealerFits (r .progress .counts) (now (dealer .exit)) ⌝ }
-    ensures rest { λ r. ⌜ Grown (p .counts) (r .progress .counts) (three (now (m0 .entry)) (now (m1 .entry)) (now (m2 .entry))) (three (now (m0 .exit)) (now (m1 .exit)) (now (m2 .exit))) (now (dealer .entry)) (now (dealer .exit)) ⌝ }
+    ensures rest { λ r. ⌜ Grown (p .counts) (r .progress .counts) (atEntry m0 m1 m2) (atExit m0 m1 m2) (now (dealer .entry)) (now (dealer .exit)) ⌝ }
 {
     let reading = p.reading;
     let counts = p.counts;
@@ -147,13 +147,13 @@ pub fn feed(
     requires masks { ⌜ MasksFit (p .counts) (now m0) (now m1) (now m2) ⌝ }
     requires dealer { ⌜ DealerFits (p .counts) (now dealer) ⌝ }
     requires room { ⌜ 105 * length (now buf) ≤ length (now out) ⌝ }
-    ensures is { λ r. ⌜ standingOf (r .progress) (now («record» .exit)) (now (m0 .exit)) (now (m1 .exit)) (now (m2 .exit)) (now (dealer .exit)) (three (now (c0 .exit)) (now (c1 .exit)) (now (c2 .exit))) ≡ afterBytes (standingOf p (now («record» .entry)) (now (m0 .entry)) (now (m1 .entry)) (now (m2 .entry)) (now (dealer .entry)) (three (now (c0 .entry)) (now (c1 .entry)) (now (c2 .entry)))) (now (buf .entry)) ⌝ }
-    ensures writes { λ r. ⌜ Wrote 0 (printedBy (standingOf p (now («record» .entry)) (now (m0 .entry)) (now (m1 .entry)) (now (m2 .entry)) (now (dealer .entry)) (three (now (c0 .entry)) (now (c1 .entry)) (now (c2 .entry)))) (now (buf .entry))) (now (out .entry)) (now (out .exit)) (r .at) ⌝ }
+    ensures is { λ r. ⌜ leaving (r .progress) «record» m0 m1 m2 dealer c0 c1 c2 ≡ afterBytes (entering p «record» m0 m1 m2 dealer c0 c1 c2) (now (buf .entry)) ⌝ }
+    ensures writes { λ r. ⌜ Wrote 0 (printedBy (entering p «record» m0 m1 m2 dealer c0 c1 c2) (now (buf .entry))) (now (out .entry)) (now (out .exit)) (r .at) ⌝ }
     ensures within { λ r. ⌜ r .at ≤ length (now (out .exit)) ⌝ }
     ensures machine { λ r. ⌜ RecordFits (now («record» .exit)) ⌝ }
     ensures masks { λ r. ⌜ MasksFit (r .progress .counts) (now (m0 .exit)) (now (m1 .exit)) (now (m2 .exit)) ⌝ }
     ensures dealer { λ r. ⌜ DealerFits (r .progress .counts) (now (dealer .exit)) ⌝ }
-    ensures rest { λ r. ⌜ Grown (p .counts) (r .progress .counts) (three (now (m0 .entry)) (now (m1 .entry)) (now (m2 .entry))) (three (now (m0 .exit)) (now (m1 .exit)) (now (m2 .exit))) (now (dealer .entry)) (now (dealer .exit)) ⌝ }
+    ensures rest { λ r. ⌜ Grown (p .counts) (r .progress .counts) (atEntry m0 m1 m2) (atExit m0 m1 m2) (now (dealer .entry)) (now (dealer .exit)) ⌝ }
 {
     let mut q = p;
     let mut i = 0;
@@ -184,13 +184,13 @@ pub fn finish(
     requires masks { ⌜ MasksFit (p .counts) (now m0) (now m1) (now m2) ⌝ }
     requires dealer { ⌜ DealerFits (p .counts) (now dealer) ⌝ }
     requires room { ⌜ 105 ≤ length (now out) ⌝ }
-    ensures is { λ r. ⌜ standingOf (r .progress) (now («record» .exit)) (now (m0 .exit)) (now (m1 .exit)) (now (m2 .exit)) (now (dealer .exit)) (three (now (c0 .exit)) (now (c1 .exit)) (now (c2 .exit))) ≡ afterLast (standingOf p (now («record» .entry)) (now (m0 .entry)) (now (m1 .entry)) (now (m2 .entry)) (now (dealer .entry)) (three (now (c0 .entry)) (now (c1 .entry)) (now (c2 .entry)))) ⌝ }
-    ensures writes { λ r. ⌜ Wrote 0 (printedLast (standingOf p (now («record» .entry)) (now (m0 .entry)) (now (m1 .entry)) (now (m2 .entry)) (now (dealer .entry)) (three (now (c0 .entry)) (now (c1 .entry)) (now (c2 .entry))))) (now (out .entry)) (now (out .exit)) (r .at) ⌝ }
+    ensures is { λ r. ⌜ leaving (r .progress) «record» m0 m1 m2 dealer c0 c1 c2 ≡ afterLast (entering p «record» m0 m1 m2 dealer c0 c1 c2) ⌝ }
+    ensures writes { λ r. ⌜ Wrote 0 (printedLast (entering p «record» m0 m1 m2 dealer c0 c1 c2)) (now (out .entry)) (now (out .exit)) (r .at) ⌝ }
     ensures within { λ r. ⌜ r .at ≤ length (now (out .exit)) ⌝ }
     ensures machine { λ r. ⌜ RecordFits (now («record» .exit)) ⌝ }
     ensures masks { λ r. ⌜ MasksFit (r .progress .counts) (now (m0 .exit)) (now (m1 .exit)) (now (m2 .exit)) ⌝ }
     ensures dealer { λ r. ⌜ DealerFits (r .progress .counts) (now (dealer .exit)) ⌝ }
-    ensures rest { λ r. ⌜ Grown (p .counts) (r .progress .counts) (three (now (m0 .entry)) (now (m1 .entry)) (now (m2 .entry))) (three (now (m0 .exit)) (now (m1 .exit)) (now (m2 .exit))) (now (dealer .entry)) (now (dealer .exit)) ⌝ }
+    ensures rest { λ r. ⌜ Grown (p .counts) (r .progress .counts) (atEntry m0 m1 m2) (atExit m0 m1 m2) (now (dealer .entry)) (now (dealer .exit)) ⌝ }
 {
     let reading = p.reading;
     if reading.seen {
