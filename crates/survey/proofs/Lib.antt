@@ -1,1 +1,2 @@
-pub mod ReachLaw
+pub mod ChunkLaw
+pub mod LoopLaw

@@ -1,26 +1,34 @@
 // The job program: lines on standard input, a printed line for each order on standard output.
+mod chunks;
+
+ghost use mathlib.Core.Bool.{cond};
 ghost use mathlib.Core.Path.{_≡_};
-ghost use Prim.Native.Nat.{_*_, _≤_, _<_};
+ghost use Prim.Native.Nat.{_*_, _-_, _≤_, _<_};
 ghost use lib.ListN.{length};
-ghost use Rattle.gate.specs.Places.{three};
-ghost use Rattle.session.specs.Kept.{DealerFits, MasksFit, RecordFits, emptyWords, noLines, standingOf};
+ghost use Rattle.gate.specs.Lent.{atEntry, atExit};
+ghost use Rattle.machine.specs.Step.{written};
+ghost use Rattle.session.specs.Kept.{DealerFits, Grown, MasksFit, RecordFits, emptyWords, entering, leaving, noLines};
 ghost use Rattle.session.specs.Outputs.{zeroWords};
-ghost use Rattle.survey.specs.Chunks.{Ended, Reached, Took};
+ghost use Rattle.survey.specs.Chunks.{Reached, Took, afterInput, printedAfter};
+use chunks::goes_on;
+use chunks::take_read;
 use libc::STDIN_FILENO;
-use libc::STDOUT_FILENO;
-use session::LAST_LINE;
 use session::Progress;
-use session::feed;
 use session::finish;
 
-// Where the job stands, and whether input may follow.
-struct Chunk {
+// Where a chunk leaves the job, how many bytes were read, and whether the system could read them and write what they print.
+struct Turn {
     progress: Progress,
-    more: bool,
+    count: usize,
+    able: bool,
 }
 
-// Reads once, and writes what the lines of it print. Input that ends or cannot be read, output that
-// cannot be written and line 1,000,000 are each the end.
+// Writes what was printed.
+fn write_out(bytes: &[u8]) -> bool {
+    streams::write(b"survey: standard output", bytes)
+}
+
+// Reads once, and writes what the lines of it print.
 fn take_chunk(
     p: Progress,
     buf: &mut [u8],
@@ -33,38 +41,34 @@ fn take_chunk(
     c1: &mut [u64],
     c2: &mut [u64],
     out: &mut [u8],
-) -> Chunk
+) -> Turn
     requires machine { ⌜ RecordFits (now «record») ⌝ }
     requires masks { ⌜ MasksFit (p .counts) (now m0) (now m1) (now m2) ⌝ }
     requires dealer { ⌜ DealerFits (p .counts) (now dealer) ⌝ }
     requires room { ⌜ 105 * length (now buf) ≤ length (now out) ⌝ }
-    ensures took { λ r. ⌜ Took (standingOf p (now («record» .entry)) (now (m0 .entry)) (now (m1 .entry)) (now (m2 .entry)) (now (dealer .entry)) (three (now (c0 .entry)) (now (c1 .entry)) (now (c2 .entry)))) (standingOf (r .progress) (now («record» .exit)) (now (m0 .exit)) (now (m1 .exit)) (now (m2 .exit)) (now (dealer .exit)) (three (now (c0 .exit)) (now (c1 .exit)) (now (c2 .exit)))) (now (buf .exit)) (now (out .entry)) (now (out .exit)) ⌝ }
+    ensures took { λ r. ⌜ Took (entering p «record» m0 m1 m2 dealer c0 c1 c2) (leaving (r .progress) «record» m0 m1 m2 dealer c0 c1 c2) (r .count) (now (buf .exit)) (now (out .entry)) (now (out .exit)) ⌝ }
     ensures machine { λ r. ⌜ RecordFits (now («record» .exit)) ⌝ }
     ensures masks { λ r. ⌜ MasksFit (r .progress .counts) (now (m0 .exit)) (now (m1 .exit)) (now (m2 .exit)) ⌝ }
     ensures dealer { λ r. ⌜ DealerFits (r .progress .counts) (now (dealer .exit)) ⌝ }
+    ensures rest { λ r. ⌜ Grown (p .counts) (r .progress .counts) (atEntry m0 m1 m2) (atExit m0 m1 m2) (now (dealer .entry)) (now (dealer .exit)) ⌝ }
 {
     let got = libc::read(STDIN_FILENO, buf);
-    let n = io::count(got, buf);
-    if n == 0 {
-        return Chunk {
-            progress: p,
-            more: false,
-        };
-    }
-    let printed = feed(p, &buf[0..n], record, m0, m1, m2, dealer, c0, c1, c2, out);
-    let progress = printed.progress;
-    let at = printed.at;
-    let is_written = io::write_all(STDOUT_FILENO, &out[0..at]);
-    Chunk {
+    let is_read = streams::is_read(b"survey: standard input", got);
+    let chunk = take_read(p, got, buf, record, m0, m1, m2, dealer, c0, c1, c2, out);
+    let progress = chunk.progress;
+    let at = chunk.at;
+    let is_written = write_out(&out[0..at]);
+    Turn {
         progress,
-        more: is_written & (progress.lines < LAST_LINE),
+        count: chunk.count,
+        able: is_read & is_written,
     }
 }
 
-// The turns that are left: none where no input may follow.
+// The turns that are left: none where there is no other chunk.
 fn fewer(turns: u64, more: bool) -> u64
     requires { ⌜ 0 < turns ⌝ }
-    ensures { λ r. ⌜ r < turns ⌝ }
+    ensures { λ r. ⌜ r ≡ cond more (turns - 1) 0 ⌝ }
 {
     if more { turns - 1 } else { 0 }
 }
@@ -81,30 +85,37 @@ fn take_input(
     c1: &mut [u64],
     c2: &mut [u64],
     out: &mut [u8],
-) -> Progress
+) -> Turn
     requires machine { ⌜ now «record» ≡ emptyWords ⌝ }
     requires masks { ⌜ MasksFit noLines (now m0) (now m1) (now m2) ⌝ }
     requires dealer { ⌜ DealerFits noLines (now dealer) ⌝ }
     requires channels { ⌜ ((now c0 ≡ zeroWords) × ((now c1 ≡ zeroWords) × (now c2 ≡ zeroWords))) ⌝ }
     requires room { ⌜ 105 * length (now buf) ≤ length (now out) ⌝ }
-    ensures reached { λ r. ⌜ Reached (standingOf r (now («record» .exit)) (now (m0 .exit)) (now (m1 .exit)) (now (m2 .exit)) (now (dealer .exit)) (three (now (c0 .exit)) (now (c1 .exit)) (now (c2 .exit)))) ⌝ }
+    ensures reached { λ r. ⌜ Reached (leaving (r .progress) «record» m0 m1 m2 dealer c0 c1 c2) (r .able) ⌝ }
     ensures machine { λ r. ⌜ RecordFits (now («record» .exit)) ⌝ }
-    ensures masks { λ r. ⌜ MasksFit (r .counts) (now (m0 .exit)) (now (m1 .exit)) (now (m2 .exit)) ⌝ }
-    ensures dealer { λ r. ⌜ DealerFits (r .counts) (now (dealer .exit)) ⌝ }
+    ensures masks { λ r. ⌜ MasksFit (r .progress .counts) (now (m0 .exit)) (now (m1 .exit)) (now (m2 .exit)) ⌝ }
+    ensures dealer { λ r. ⌜ DealerFits (r .progress .counts) (now (dealer .exit)) ⌝ }
+    ensures rest { λ r. ⌜ Grown noLines (r .progress .counts) (atEntry m0 m1 m2) (atExit m0 m1 m2) (now (dealer .entry)) (now (dealer .exit)) ⌝ }
 {
-    let mut p = Progress::start();
+    let mut turn = Turn {
+        progress: Progress::start(),
+        count: 0,
+        able: true,
+    };
     let mut turns = u64::MAX;
     while 0 < turns {
-        let chunk = take_chunk(p, buf, record, m0, m1, m2, dealer, c0, c1, c2, out);
-        p = chunk.progress;
-        turns = fewer(turns, chunk.more);
+        let p = turn.progress;
+        turn = take_chunk(p, buf, record, m0, m1, m2, dealer, c0, c1, c2, out);
+        let left = turn.progress;
+        turns = fewer(turns, goes_on(turn.able, turn.count, left.lines));
     }
-    p
+    turn
 }
 
 // The end of input, and what its last line prints.
 fn end_input(
     p: Progress,
+    able: bool,
     record: &mut [u64],
     m0: &mut [u64],
     m1: &mut [u64],
@@ -114,16 +125,22 @@ fn end_input(
     c1: &mut [u64],
     c2: &mut [u64],
     out: &mut [u8],
-)
+) -> Progress
     requires machine { ⌜ RecordFits (now «record») ⌝ }
     requires masks { ⌜ MasksFit (p .counts) (now m0) (now m1) (now m2) ⌝ }
     requires dealer { ⌜ DealerFits (p .counts) (now dealer) ⌝ }
     requires room { ⌜ 105 ≤ length (now out) ⌝ }
-    ensures { λ _. ⌜ Ended (standingOf p (now («record» .entry)) (now (m0 .entry)) (now (m1 .entry)) (now (m2 .entry)) (now (dealer .entry)) (three (now (c0 .entry)) (now (c1 .entry)) (now (c2 .entry)))) (now (out .entry)) (now (out .exit)) ⌝ }
+    ensures is { λ r. ⌜ leaving r «record» m0 m1 m2 dealer c0 c1 c2 ≡ afterInput able (entering p «record» m0 m1 m2 dealer c0 c1 c2) ⌝ }
+    ensures prints { λ _. ⌜ now (out .exit) ≡ written 0 (printedAfter able (entering p «record» m0 m1 m2 dealer c0 c1 c2)) (now (out .entry)) ⌝ }
+    ensures rest { λ r. ⌜ Grown (p .counts) (r .counts) (atEntry m0 m1 m2) (atExit m0 m1 m2) (now (dealer .entry)) (now (dealer .exit)) ⌝ }
 {
+    if !able {
+        return p;
+    }
     let last = finish(p, record, m0, m1, m2, dealer, c0, c1, c2, out);
     let at = last.at;
-    io::write_all(STDOUT_FILENO, &out[0..at]);
+    write_out(&out[0..at]);
+    last.progress
 }
 
 fn main() {
@@ -137,7 +154,7 @@ fn main() {
     let mut c1 = [0u64; 1024];
     let mut c2 = [0u64; 1024];
     let mut out = [0u8; 262080];
-    let p = take_input(
+    let last = take_input(
         &mut buf,
         &mut record,
         &mut m0,
@@ -149,8 +166,10 @@ fn main() {
         &mut c2,
         &mut out,
     );
+    let p = last.progress;
     end_input(
         p,
+        last.able,
         &mut record,
         &mut m0,
         &mut m1,

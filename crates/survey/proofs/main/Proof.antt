@@ -21,9 +21,9 @@ sizes c κs = (
 
 ends : tie.Need-end-input-requires
 ends c κs =
-    let given = c .before .before .before .before .before .before .before .before .before in
+    let given = c .before .before .before .before .before .before .before .before .before .before in
     let told = given .before .before .before .before .before .before .before .before .before .before .take-input .ensures in
-    (told .1 .0, (told .1 .1 .0, (told .1 .1 .1, omega (arith, given .out2 .given, zeros 262080))))
+    (told .1 .0, (told .1 .1 .0, (told .1 .1 .1 .0, omega (arith, given .out2 .given, zeros 262080))))
 
 pub main-spec : {M : Type 1} → statement M
 main-spec =

@@ -1,56 +1,48 @@
--- One chunk: no run changes its length.
-use Prim.Native.Nat.{ℕ, _*_, _-_, _≤_}
-use mathlib.Core.List.{List}
+-- One chunk: what was read of it is taken, and no run changes its length.
+use Prim.Native.Nat.{ℕ}
 use mathlib.Core.Path.{_≡_}
 use native.Mathlib.Omega.{arith}
 use borrow.Author.Needs.{needs}
-use lib.ListN.{length, length-take, take}
-use Rattle.survey.proofs.ReachLaw.{took-none}
+use lib.ListN.{length}
+use mir.Syntax.{w64}
+use mir.Val.{ofZ, toZ}
+use Rattle.gate.specs.Places.{three}
+use Rattle.session.specs.Kept.{standingOf}
+use Rattle.session.specs.Standings.{Standing}
+use Rattle.survey.proofs.ChunkLaw.{took}
 use Rattle.survey.proofs.take_chunk.Statement.{statement}
 use Rattle.survey.proofs.take_chunk.Tie as tie
 
-abbrev fed : tie.After-struct-known → tie.After-feed
-fed c = c .before .before .before .before .before .before .before .before .before .before .before .before .before .before .before .before .before .before .before .before .before .before .before
+abbrev standsAt : tie.Start → Standing
+standsAt a =
+    standingOf (a .args .p) (a .args .«record» .now) (a .args .m0 .now) (a .args .m1 .now) (a .args .m2 .now) (a .args .dealer .now)
+    (three (a .args .c0 .now) (a .args .c1 .now) (a .args .c2 .now))
 
-buffer : tie.Need-same-length-2
-buffer c = fed c .before .before .before .before .before .before .before .before .before .before .before .before .before .before .before .before .buf .given
+abbrev taken : tie.After-write-out → tie.After-take-read
+taken c = c .before .before .before .before .before .before .before .before .before .before .before .before .before .before .before .before .before .before .before .before .before .before
 
-none : tie.Need-returns
-none c =
-    let filled = c .before .before .before .before in
-    let a = filled .before .before .before .before .before .before .before .before .before .before .before .before .before in
-    (took-none _ (filled .before .read .last .1 .0) (a .args .out .now), (a .pre .0, (a .pre .1 .0, a .pre .1 .1 .0)))
+abbrev filled : tie.After-take-read-arg10 → tie.After-buf
+filled c = c .before .before .before .before .before .before .before .before .before .before .before .before .before
 
--- what was read is no longer than the buffer
-room : (n : ℕ) {k o : ℕ} (l : List ℕ) → length l ≡ k → 105 * k ≤ o → 105 * length (take n l) ≤ o
-room n l e h = omega (arith, length-take n l)
+abbrev start : tie.After-buf → tie.Start
+start c = c .before .before .before .before .before .before .before .before .before .before .before .before .before
 
-feeds : tie.Need-feed-requires
-feeds c κs =
-    let counted = c .before .before .before .before .before .before .before .before .before .before .before .before in
-    let filled = counted .before .before .before in
-    let a = filled .before .before .before .before .before .before .before .before .before .before .before .before .before in
-    (a .pre .0, (a .pre .1 .0, (a .pre .1 .1 .0, room (counted .count .result - 0) (filled .before .read .last .1 .0) (filled .buf .given) (a .pre .1 .1 .1))))
+takes : tie.Need-take-read-requires
+takes c κs =
+    let read = filled c in
+    let a = start read .pre in
+    (a .0, (a .1 .0, (a .1 .1 .0, omega (arith, read .buf .given, a .1 .1 .1))))
 
-done : tie.Need-returns-2
+done : tie.Need-returns
 done c =
-    let told = fed c .feed .ensures in
-    let counted = fed c .before .before .before .before .before .before .before .before .before .before .before .before .before in (
-      record {
-        count = counted .count .result - 0;
-        within = omega (arith, counted .count .ensures .0);
-        next = fed c .feed .result .at;
-        after = told .0;
-        wrote = told .1 .0;
-      },
-      (told .1 .1 .1 .0, (told .1 .1 .1 .1 .0, told .1 .1 .1 .1 .1 .0)),
-    )
+    let told = taken c .take-read .ensures in
+    let read = filled (taken c .before) in
+    (took (standsAt (start read)) (toZ w64 (ofZ w64 (read .before .read .result))) (read .before .read .last .1 .0) (told .0) (told .1 .0) (told .1 .1 .0), told .1 .1 .1 .1)
 
 pub take-chunk-spec : {M : Type 1} → statement M
 take-chunk-spec =
     tie.close
-    (tie.spec (λ c κs. search needs) (λ c κs. search needs) (λ c. search needs) none
-    (λ c. search needs) (λ c. search needs) (λ c. search needs) feeds
+    (tie.spec (λ c κs. search needs) (λ c. search needs) (λ c κs. search needs) takes
     (λ c. search needs) (λ c. search needs) (λ c. search needs) (λ c κs. search needs)
-    buffer (λ c. search needs) (λ c. search needs) (λ c. search needs) (λ c. search needs) (λ c. search needs)
-    (λ c. search needs) (λ c. search needs) (λ c. search needs) (λ c. search needs) done)
+    (λ c. filled (taken c .before) .buf .given) (λ c. search needs) (λ c. search needs) (λ c. search needs) (λ c. search needs)
+    (λ c. search needs) (λ c. search needs) (λ c. search needs) (λ c. search needs) (λ c. search needs) done)
