@@ -5,12 +5,13 @@ use mathlib.Core.List.{List}
 use mathlib.Core.Path.{_≡_}
 use lib.ListN.{getD, length}
 use Rattle.ring.specs.Modular.{diff}
-use Rattle.ring.specs.Rings.{modulus, quarter, ringOf}
+use Rattle.ring.specs.Rings.{modulus, modulusOf, quarter, ringOf, widthOf}
+use Rattle.ring.specs.declared.rings.Ring.{Ring}
 use Rattle.gate.specs.Places.{Place, parts}
 use Rattle.circuit.specs.Circuits.{gatesOf}
 use Rattle.value.specs.Values.{lifted, roundedUp}
 use Rattle.machine.specs.Checks.{Tapes, firstMet, publicChecks}
-use Rattle.machine.specs.Registers.{Kind, Public, countAt, empty, kindAt, publicOf, registerAt, sharesOf, sound, widthAt}
+use Rattle.machine.specs.Registers.{Kind, Public, countAt, empty, kindAt, million, publicOf, registerAt, sharesOf, sound, widthAt}
 use Rattle.machine.specs.Step.{lengthsOf, refused, step, valueOf}
 use Rattle.machine.specs.Work.{Work, adjusts, computes, deals, modulusAt, numberKind, opens, workOf}
 use Rattle.machine.specs.declared.orders.Order.{Order}
@@ -45,6 +46,24 @@ PublicFields = (o : Order) (m : Machine) (T : Tapes) (c : Place → List ℕ)
     → (step o m T c .refusal ≡ 10 → ⊥)
     → (RefusedNumber o (step o m T c .refusal) → ⊥)
     → step o m T c .refusal ≡ firstMet (publicChecks (withoutNumber o) (publicOf m) (lengthsOf T c))
+
+-- "Deal: 5 ..; 7 ..; 8 ..; 9 ..; 10 ..": where none is met, nor 1 or 2, a deal is accepted; e is the width of a ring, 13, 31 or 61
+abbrev pub DealAccepted : Type 0
+DealAccepted = (d v : ℕ) (r : Ring) (m : Machine) (T : Tapes) (c : Place → List ℕ)
+    → sound m ≡ true
+    → d ≤ 15
+    → v < modulusOf r
+    → length (T .dealer) ≤ million
+    → m .«dealer_at» + 2 ≤ length (T .dealer)
+    → getD (T .dealer) (m .«dealer_at») 0 < modulusOf r
+    → getD (T .dealer) (m .«dealer_at» + 1) 0 < modulusOf r
+    → step (Deal d (widthOf r) v) m T c .refusal ≡ 0
+
+-- "7 v is p or more": a deal is refused for its number only where that is so
+abbrev pub DealRefusedNumber : Type 0
+DealRefusedNumber = (d e v : ℕ) (m : Machine) (T : Tapes) (c : Place → List ℕ)
+    → step (Deal d e v) m T c .refusal ≡ 7
+    → modulus e ≤ v
 
 -- the words that an order writes on each channel, and the dealer's items that it takes
 abbrev pub wordsOf : Work → ℕ
