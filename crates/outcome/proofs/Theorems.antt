@@ -1,9 +1,9 @@
 -- Demands 1 and 2 (specs/Theorems.antt).
-use Prim.Native.Nat.{ℕ, _+_, _<_}
+use Prim.Native.Nat.{ℕ, _+_, _-_, _%_, _≤_, _<_}
 use mathlib.Core.Bool.{Bool, cond, false, not, true, true≢false}
 use mathlib.Core.List.{List, [], _∷_, _++_}
 use mathlib.Core.Path.{_≡_, ap, refl, sym, _∙_}
-use native.Mathlib.Nat.{add-zero}
+use native.Mathlib.Nat.{add-zero, mod-eq-of-lt}
 use native.Mathlib.Omega.{arith}
 use lib.Dec.{leb, ltb}
 use lib.ListN.{List·getD-eq-default, getD, length, length-map, set}
@@ -16,6 +16,7 @@ use Rattle.ring.specs.declared.rings.Ring.the-variants.{R13, R31, R61}
 use Rattle.gate.specs.Places.{Place}
 use Rattle.circuit.specs.Orders.{addition, multiplication, scaling}
 use Rattle.value.proofs.Counts.{compose-count, convert-count}
+use Rattle.value.proofs.ModulusLaw.{value-lt}
 use Rattle.machine.specs.Checks.{Check, Lengths, Tapes, anyAbove15, badItem, check, firstMet, kindChecks, leftOf, lengthChecks, named, noRing, publicChecks}
 use Rattle.machine.specs.Registers.{Kind, Public, bits, countAt, empty, kindAt, kindOf, million, publicOf, registerAt, sound, widthAt}
 use Rattle.machine.specs.Step.{Outcome, checks, computed, dealt, lengthsOf, opened, performed, step}
@@ -26,12 +27,12 @@ use Rattle.machine.specs.declared.registers.Machine.{Machine}
 use Rattle.machine.specs.declared.registers.Slot.{Slot}
 use Rattle.party.specs.Steps.{gatesIn, withoutNumber}
 use Rattle.job.specs.Jobs.{RefusedNumber, isOpening}
-use Rattle.outcome.specs.Theorems.{AddLeaves, ChannelsStand, ComposeLeaves, ConvertLeaves, ConvertLeavesAll, DealAccepted, DealLeaves, DealRefusedNumber, DecomposeLeaves, DecomposeLeavesAll, GatesAnswered, GatesCounted, KeepsSound, KindLeft, MultiplyLeaves, OpensValue, OthersStand, PositionsRise, PublicFields, PublicRefusal, ScaleLeaves, ShiftLeaves, ShiftLeavesAll, Unchanged, ValueAnswered, destination, gatesFor, kindLeft, wordsOf}
+use Rattle.outcome.specs.Theorems.{AddLeaves, ChannelsStand, ComposeLeaves, ConvertLeaves, ConvertLeavesAll, DealAccepted, DealLeaves, DealRefusedNumber, DecomposeLeaves, DecomposeLeavesAll, GatesAnswered, GatesCounted, KeepsSound, KindLeft, MultiplyLeaves, OpensValue, OthersStand, PositionsRise, PublicFields, PublicRefusal, RoundTrip, ScaleLeaves, ShiftLeaves, ShiftLeavesAll, Unchanged, ValueAnswered, destination, gatesFor, kindLeft, valueAt, wordsOf}
 use Rattle.outcome.proofs.ChannelLaw.{Stands, channels-kept, stands}
 use Rattle.outcome.proofs.CheckLaw.{Accepted, Passed, accepted, either, last-aside, neither, refusal-is, refused-is}
-use Rattle.outcome.proofs.KindLaw.{add-fits, add-value, compose-fits, compose-value, convert-fits, convert-value, convert-value-all, deal-fits, deal-value, decompose-fits, decompose-gates, decompose-value, decompose-value-all, multiply-fits, multiply-value, scale-fits, scale-value, shift-fits, shift-gates, shift-value, shift-value-all, zero-below}
+use Rattle.outcome.proofs.KindLaw.{add-fits, add-value, compose-fits, compose-value, convert-fits, convert-value, convert-value-all, count-in-range, deal-fits, deal-value, decompose-fits, decompose-gates, decompose-value, decompose-value-all, multiply-fits, multiply-value, scale-fits, scale-value, shift-fits, shift-gates, shift-value, shift-value-all, zero-below}
 use Rattle.outcome.proofs.RegisterLaw.{register-fits, sharesAt, sound-parts, value-at}
-use Rattle.outcome.proofs.WorkLaw.{FitsIn, computed-leaves, dealt-leaves, gates-are, light, others-kept, performed-sound, public-after, publicBy, rises, target-is}
+use Rattle.outcome.proofs.WorkLaw.{FitsIn, computed-leaves, dealt-leaves, gates-are, light, others-kept, performed-sound, public-after, publicBy, rises, slots-kept, target-is}
 
 pub unchanged : Unchanged
 unchanged = refused-is
@@ -287,6 +288,23 @@ compose-leaves d x f m T c ok sixteen =
     rw (a .done, value-at m x)
     (computed-leaves m (leftOf (publicOf m) T) c _ d x x (numberKind (ringOf f)) (in-reach d (x ∷ []) _ (a .registers) sixteen)
     ∙ compose-value (kind m x) f (a .kinds) (sharesAt m x) (sharesAt m x) (masks m T) (register-fits m x (a .sound)))
+
+-- every order leaves as many registers as there were
+pub slots-stand : (o : Order) (m : Machine) (T : Tapes) (c : Place → List ℕ) → length (step o m T c .machine .slots) ≡ length (m .slots)
+slots-stand o m T c =
+    either o m T c (λ s. length (s .machine .slots) ≡ length (m .slots))
+    (λ a. slots-kept m (leftOf (publicOf m) T) c (workOf o (publicOf m)))
+    refl
+
+pub round-trip : RoundTrip
+round-trip d k x m T T′ c c′ ok ok′ sixteen small =
+    let e = widthAt (kind m x) in
+    let o : Order = Decompose d x (e - 2) in
+    let wide : 2 ≤ e = omega (arith, count-in-range (kind m x) (e - 2) (accepted o m T c ok .kinds)) in
+    compose-leaves k d e (step o m T c .machine) T′ c′ ok′ (slots-stand o m T c ∙ sixteen)
+    ∙ ap (λ (w : ℕ). w % modulus e)
+    (decompose-leaves d x (e - 2) m T c ok sixteen small ∙ mod-eq-of-lt (value-lt e (valueAt m x) wide small))
+    ∙ mod-eq-of-lt (omega arith)
 
 pub decompose-leaves-all : DecomposeLeavesAll
 decompose-leaves-all d x l m T c ok sixteen =

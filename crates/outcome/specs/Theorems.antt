@@ -215,6 +215,19 @@ ComposeLeaves = (d x f : ℕ) (m : Machine) (T : Tapes) (c : Place → List ℕ)
     → length (m .slots) ≡ 16
     → valueAt (step (Compose d x f) m T c .machine) d ≡ valueAt m x % modulus f
 
+-- decomposed at l = e-2 and composed in the same ring, e being the width of register x: a is back, in register k, whatever the tapes
+-- of either order, and whatever the channels hold when the second starts
+abbrev pub RoundTrip : Type 0
+RoundTrip = (d k x : ℕ) (m : Machine) (T T′ : Tapes) (c c′ : Place → List ℕ)
+    → (let e = widthAt (kindAt (publicOf m) x) in
+    let bits = step (Decompose d x (e - 2)) m T c in
+    let back = step (Compose k d e) (bits .machine) T′ c′ in
+    bits .refusal ≡ 0
+    → back .refusal ≡ 0
+    → length (m .slots) ≡ 16
+    → 4 * valueAt m x < modulusAt (publicOf m) x
+    → valueAt (back .machine) k ≡ valueAt m x)
+
 -- the same for all sub-shares, with no condition on a: e is the width of register x and X the total of its 4 a_i modulo p
 
 -- "The value is (X div 4 + [X mod 4 is not 0]) modulo 2^l"
