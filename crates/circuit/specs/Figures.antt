@@ -1,4 +1,5 @@
--- 01, "Figures worked by hand": the rows marked (*), of the definitions. Proof: proofs/Figures.antt.
+-- 01, "Figures worked by hand": the rows marked (*) that speak of circuits and gates. Proof: proofs/Figures.antt.
+-- The whole table, with the rows over `step`, is `machine`'s specs/Figures.antt.
 use Prim.Native.Nat.{ℕ}
 use mathlib.Core.List.{List, [], _∷_, map}
 use mathlib.Core.Path.{_≡_}
@@ -43,7 +44,7 @@ givesWithX a b c = value a b c ∷ lifted 13 (three a b c) ∷ bits a b c ∷ []
 abbrev converted : ℕ → ℕ → ℕ → ℕ → List ℕ
 converted f a b c = total (modulus f) (run (conversion 13 f) a b c) ∷ []
 
-abbrev row : List ℕ → List ℕ → Figure
+abbrev pub row : List ℕ → List ℕ → Figure
 row given wanted = record { given = given; wanted = wanted }
 
 unfoldable pub figures : List Figure
@@ -64,6 +65,6 @@ figures =
     ∷ row (listed (gated 2 (three 1 0 1) (three 1 1 0) (three 0 1 1))) (1 ∷ 1 ∷ 0 ∷ [])
     ∷ []
 
--- every row holds
-abbrev pub FiguresHold : Type 0
-FiguresHold = map (λ (f : Figure). f .given) figures ≡ map (λ (f : Figure). f .wanted) figures
+-- every row of a table holds
+abbrev pub Hold : List Figure → Type 0
+Hold rows = map (λ (f : Figure). f .given) rows ≡ map (λ (f : Figure). f .wanted) rows

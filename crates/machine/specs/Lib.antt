@@ -1,4 +1,5 @@
 pub mod Checks
+pub mod Figures
 pub mod Orders
 pub mod Registers
 pub mod Step

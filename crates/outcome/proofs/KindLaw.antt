@@ -145,7 +145,7 @@ module _ (k : Kind) (l : ℕ) (h : Passed (aNumber k ++ (check (not (leb 1 l && 
   cut : NumberOf k (widthAt k)
   cut = a-number k (h .0) (h .1 .0)
 
-  count-in-range : (1 ≤ l) × (l ≤ widthAt k - 2)
+  pub count-in-range : (1 ≤ l) × (l ≤ widthAt k - 2)
   count-in-range =
       let tests = and-eq-true-iff (leb 1 l) (leb l (widthAt k - 2)) .0 (not-false _ (h .1 .1 .0)) in
       (leb-true _ _ (tests .0), leb-true _ _ (tests .1))

@@ -6,7 +6,7 @@ use mathlib.Core.Path.{_≡_, ap, refl, sym, _∙_}
 use lib.Dec.{eqb}
 use borrow.Author.Tests.{eqb-false, eqb-true}
 use Rattle.gate.specs.Places.{Place}
-use Rattle.machine.specs.Checks.{Tapes, leftOf}
+use Rattle.machine.specs.Checks.{Tapes}
 use Rattle.machine.specs.Registers.{Public, kindAt, publicOf, registerAt, widthAt}
 use Rattle.machine.specs.Step.{opened, step, valueOf}
 use Rattle.machine.specs.Work.{workOf}
@@ -17,13 +17,11 @@ use Rattle.job.specs.Jobs.{Small, TakesSmall}
 use Rattle.outcome.specs.Same.{KeepsGood, KeepsSame, Same}
 use Rattle.outcome.specs.Theorems.{destination, valueAt}
 use Rattle.outcome.proofs.CheckLaw.{accepted}
-use Rattle.outcome.proofs.Theorems.{add-leaves, compose-leaves, convert-leaves, deal-leaves, decompose-leaves, keeps-sound, multiply-leaves, others-stand, scale-leaves, shift-leaves, step-public}
-use Rattle.outcome.proofs.WorkLaw.{publicBy, slots-kept}
+use Rattle.outcome.proofs.Theorems.{add-leaves, compose-leaves, convert-leaves, deal-leaves, decompose-leaves, keeps-sound, multiply-leaves, others-stand, scale-leaves, shift-leaves, slots-stand, step-public}
+use Rattle.outcome.proofs.WorkLaw.{publicBy}
 
 pub keeps-good : KeepsGood
-keeps-good o m T c good ok =
-    let kept = slots-kept m (leftOf (publicOf m) T) c (workOf o (publicOf m)) in
-    record { sound = keeps-sound o m T c ok; slots = rw (accepted o m T c ok .done) (kept ∙ good .slots) }
+keeps-good o m T c good ok = record { sound = keeps-sound o m T c ok; slots = slots-stand o m T c ∙ good .slots }
 
 -- an opening writes no register
 opening-stands : (x : ℕ) (m : Machine) (T : Tapes) (c : Place → List ℕ) → step (Open x) m T c .refusal ≡ 0

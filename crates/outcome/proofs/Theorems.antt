@@ -1,19 +1,24 @@
 -- Demands 1 and 2 (specs/Theorems.antt).
-use Prim.Native.Nat.{ℕ, _<_}
-use mathlib.Core.Bool.{Bool, cond, false, true, true≢false}
+use Prim.Native.Nat.{ℕ, _+_, _-_, _%_, _≤_, _<_}
+use mathlib.Core.Bool.{Bool, cond, false, not, true, true≢false}
 use mathlib.Core.List.{List, [], _∷_, _++_}
-use mathlib.Core.Path.{_≡_, ap, refl, _∙_}
+use mathlib.Core.Path.{_≡_, ap, refl, sym, _∙_}
+use native.Mathlib.Nat.{add-zero, mod-eq-of-lt}
 use native.Mathlib.Omega.{arith}
 use lib.Dec.{leb, ltb}
 use lib.ListN.{List·getD-eq-default, getD, length, length-map, set}
-use lib.Seq.{getD-set-same}
-use borrow.Author.Tests.{ltb-false}
-use Rattle.ring.specs.Rings.{modulus, ringOf}
+use lib.Seq.{getD-drop, getD-set-same}
+use borrow.Author.Tests.{le-ltb, leb-true, lt-leb, ltb-false}
+use Rattle.ring.specs.Rings.{modulus, modulusOf, ringOf, widthOf}
+use Rattle.ring.specs.declared.rings.OfWidth.the-variants.{Named}
+use Rattle.ring.specs.declared.rings.Ring.{Ring}
+use Rattle.ring.specs.declared.rings.Ring.the-variants.{R13, R31, R61}
 use Rattle.gate.specs.Places.{Place}
 use Rattle.circuit.specs.Orders.{addition, multiplication, scaling}
 use Rattle.value.proofs.Counts.{compose-count, convert-count}
+use Rattle.value.proofs.ModulusLaw.{value-lt}
 use Rattle.machine.specs.Checks.{Check, Lengths, Tapes, anyAbove15, badItem, check, firstMet, kindChecks, leftOf, lengthChecks, named, noRing, publicChecks}
-use Rattle.machine.specs.Registers.{Kind, Public, bits, countAt, empty, kindAt, kindOf, publicOf, registerAt, widthAt}
+use Rattle.machine.specs.Registers.{Kind, Public, bits, countAt, empty, kindAt, kindOf, million, publicOf, registerAt, sound, widthAt}
 use Rattle.machine.specs.Step.{Outcome, checks, computed, dealt, lengthsOf, opened, performed, step}
 use Rattle.machine.specs.Work.{deals, numberKind, workOf}
 use Rattle.machine.specs.declared.orders.Order.{Order}
@@ -22,12 +27,12 @@ use Rattle.machine.specs.declared.registers.Machine.{Machine}
 use Rattle.machine.specs.declared.registers.Slot.{Slot}
 use Rattle.party.specs.Steps.{gatesIn, withoutNumber}
 use Rattle.job.specs.Jobs.{RefusedNumber, isOpening}
-use Rattle.outcome.specs.Theorems.{AddLeaves, ChannelsStand, ComposeLeaves, ConvertLeaves, ConvertLeavesAll, DealLeaves, DecomposeLeaves, DecomposeLeavesAll, GatesAnswered, GatesCounted, KeepsSound, KindLeft, MultiplyLeaves, OpensValue, OthersStand, PositionsRise, PublicFields, PublicRefusal, ScaleLeaves, ShiftLeaves, ShiftLeavesAll, Unchanged, ValueAnswered, destination, gatesFor, kindLeft, wordsOf}
+use Rattle.outcome.specs.Theorems.{AddLeaves, ChannelsStand, ComposeLeaves, ConvertLeaves, ConvertLeavesAll, DealAccepted, DealLeaves, DealRefusedNumber, DecomposeLeaves, DecomposeLeavesAll, GatesAnswered, GatesCounted, KeepsSound, KindLeft, MultiplyLeaves, OpensValue, OthersStand, PositionsRise, PublicFields, PublicRefusal, RoundTrip, ScaleLeaves, ShiftLeaves, ShiftLeavesAll, Unchanged, ValueAnswered, destination, gatesFor, kindLeft, valueAt, wordsOf}
 use Rattle.outcome.proofs.ChannelLaw.{Stands, channels-kept, stands}
 use Rattle.outcome.proofs.CheckLaw.{Accepted, Passed, accepted, either, last-aside, neither, refusal-is, refused-is}
-use Rattle.outcome.proofs.KindLaw.{add-fits, add-value, compose-fits, compose-value, convert-fits, convert-value, convert-value-all, deal-fits, deal-value, decompose-fits, decompose-gates, decompose-value, decompose-value-all, multiply-fits, multiply-value, scale-fits, scale-value, shift-fits, shift-gates, shift-value, shift-value-all, zero-below}
+use Rattle.outcome.proofs.KindLaw.{add-fits, add-value, compose-fits, compose-value, convert-fits, convert-value, convert-value-all, count-in-range, deal-fits, deal-value, decompose-fits, decompose-gates, decompose-value, decompose-value-all, multiply-fits, multiply-value, scale-fits, scale-value, shift-fits, shift-gates, shift-value, shift-value-all, zero-below}
 use Rattle.outcome.proofs.RegisterLaw.{register-fits, sharesAt, sound-parts, value-at}
-use Rattle.outcome.proofs.WorkLaw.{FitsIn, computed-leaves, dealt-leaves, gates-are, light, others-kept, performed-sound, public-after, publicBy, rises, target-is}
+use Rattle.outcome.proofs.WorkLaw.{FitsIn, computed-leaves, dealt-leaves, gates-are, light, others-kept, performed-sound, public-after, publicBy, rises, slots-kept, target-is}
 
 pub unchanged : Unchanged
 unchanged = refused-is
@@ -68,6 +73,52 @@ pub public-fields : PublicFields
 public-fields o m T c is-sound not-item not-number =
     let public = public-refusal o m T c is-sound not-item in
     public ∙ number-aside o (publicOf m) (lengthsOf T c) (λ h. not-number (rw public h))
+
+ring-named : (r : Ring) → ringOf (widthOf r) ≡ Named r
+unfolding ringOf
+ring-named R13 = refl
+ring-named R31 = refl
+ring-named R61 = refl
+
+pub deal-accepted : DealAccepted
+unfolding checks publicChecks firstMet anyAbove15
+deal-accepted d v r m T c is-sound reached below few room first second =
+    let at = m .«dealer_at» in
+    refusal-is (Deal d (widthOf r) v) m T c
+    ∙ rw (
+      is-sound,
+      le-ltb 15 d reached,
+      ring-named r,
+      lt-leb (modulusOf r) v below,
+      le-ltb million (length (T .dealer)) few,
+      le-ltb (length (T .dealer)) (at + 2) room,
+      getD-drop at (T .dealer) 0 0,
+      add-zero at,
+      getD-drop at (T .dealer) 1 0,
+      lt-leb (modulusOf r) (getD (T .dealer) at 0) first,
+      lt-leb (modulusOf r) (getD (T .dealer) (at + 1) 0) second,
+    )
+
+-- of a deal's checks, 7 is the number's alone
+number-met : (a b c x l n i : Bool)
+    → _≡_ {A = ℕ} (cond a 1 (cond b 2 (cond c 5 (cond x 7 (cond l 8 (cond n 9 (cond i 10 0))))))) 7 → x ≡ true
+number-met true b c x l n i h = absurd (omega arith)
+number-met false true c x l n i h = absurd (omega arith)
+number-met false false true x l n i h = absurd (omega arith)
+number-met false false false true l n i h = refl
+number-met false false false false true n i h = absurd (omega arith)
+number-met false false false false false true i h = absurd (omega arith)
+number-met false false false false false false true h = absurd (omega arith)
+number-met false false false false false false false h = absurd (omega arith)
+
+pub deal-refused-number : DealRefusedNumber
+unfolding checks publicChecks firstMet
+deal-refused-number d e v m T c h =
+    let n = length (T .dealer) in
+    leb-true (modulus e) v
+    (number-met (not (sound m)) (anyAbove15 (d ∷ [])) (noRing (ringOf e)) (leb (modulus e) v)
+    (ltb million n) (ltb n (m .«dealer_at» + 2)) (badItem (deals d e v) (leftOf (publicOf m) T))
+    (sym (refusal-is (Deal d e v) m T c) ∙ h))
 
 -- the kind of register k, and what is left of the mask tapes
 abbrev kind : Machine → ℕ → Kind
@@ -237,6 +288,23 @@ compose-leaves d x f m T c ok sixteen =
     rw (a .done, value-at m x)
     (computed-leaves m (leftOf (publicOf m) T) c _ d x x (numberKind (ringOf f)) (in-reach d (x ∷ []) _ (a .registers) sixteen)
     ∙ compose-value (kind m x) f (a .kinds) (sharesAt m x) (sharesAt m x) (masks m T) (register-fits m x (a .sound)))
+
+-- every order leaves as many registers as there were
+pub slots-stand : (o : Order) (m : Machine) (T : Tapes) (c : Place → List ℕ) → length (step o m T c .machine .slots) ≡ length (m .slots)
+slots-stand o m T c =
+    either o m T c (λ s. length (s .machine .slots) ≡ length (m .slots))
+    (λ a. slots-kept m (leftOf (publicOf m) T) c (workOf o (publicOf m)))
+    refl
+
+pub round-trip : RoundTrip
+round-trip d k x m T T′ c c′ ok ok′ sixteen small =
+    let e = widthAt (kind m x) in
+    let o : Order = Decompose d x (e - 2) in
+    let wide : 2 ≤ e = omega (arith, count-in-range (kind m x) (e - 2) (accepted o m T c ok .kinds)) in
+    compose-leaves k d e (step o m T c .machine) T′ c′ ok′ (slots-stand o m T c ∙ sixteen)
+    ∙ ap (λ (w : ℕ). w % modulus e)
+    (decompose-leaves d x (e - 2) m T c ok sixteen small ∙ mod-eq-of-lt (value-lt e (valueAt m x) wide small))
+    ∙ mod-eq-of-lt (omega arith)
 
 pub decompose-leaves-all : DecomposeLeavesAll
 decompose-leaves-all d x l m T c ok sixteen =

@@ -5,12 +5,13 @@ use mathlib.Core.List.{List}
 use mathlib.Core.Path.{_≡_}
 use lib.ListN.{getD, length}
 use Rattle.ring.specs.Modular.{diff}
-use Rattle.ring.specs.Rings.{modulus, quarter, ringOf}
+use Rattle.ring.specs.Rings.{modulus, modulusOf, quarter, ringOf, widthOf}
+use Rattle.ring.specs.declared.rings.Ring.{Ring}
 use Rattle.gate.specs.Places.{Place, parts}
 use Rattle.circuit.specs.Circuits.{gatesOf}
 use Rattle.value.specs.Values.{lifted, roundedUp}
 use Rattle.machine.specs.Checks.{Tapes, firstMet, publicChecks}
-use Rattle.machine.specs.Registers.{Kind, Public, countAt, empty, kindAt, publicOf, registerAt, sharesOf, sound, widthAt}
+use Rattle.machine.specs.Registers.{Kind, Public, countAt, empty, kindAt, million, publicOf, registerAt, sharesOf, sound, widthAt}
 use Rattle.machine.specs.Step.{lengthsOf, refused, step, valueOf}
 use Rattle.machine.specs.Work.{Work, adjusts, computes, deals, modulusAt, numberKind, opens, workOf}
 use Rattle.machine.specs.declared.orders.Order.{Order}
@@ -45,6 +46,24 @@ PublicFields = (o : Order) (m : Machine) (T : Tapes) (c : Place → List ℕ)
     → (step o m T c .refusal ≡ 10 → ⊥)
     → (RefusedNumber o (step o m T c .refusal) → ⊥)
     → step o m T c .refusal ≡ firstMet (publicChecks (withoutNumber o) (publicOf m) (lengthsOf T c))
+
+-- "Deal: 5 ..; 7 ..; 8 ..; 9 ..; 10 ..": where none is met, nor 1 or 2, a deal is accepted; e is the width of a ring, 13, 31 or 61
+abbrev pub DealAccepted : Type 0
+DealAccepted = (d v : ℕ) (r : Ring) (m : Machine) (T : Tapes) (c : Place → List ℕ)
+    → sound m ≡ true
+    → d ≤ 15
+    → v < modulusOf r
+    → length (T .dealer) ≤ million
+    → m .«dealer_at» + 2 ≤ length (T .dealer)
+    → getD (T .dealer) (m .«dealer_at») 0 < modulusOf r
+    → getD (T .dealer) (m .«dealer_at» + 1) 0 < modulusOf r
+    → step (Deal d (widthOf r) v) m T c .refusal ≡ 0
+
+-- "7 v is p or more": a deal is refused for its number only where that is so
+abbrev pub DealRefusedNumber : Type 0
+DealRefusedNumber = (d e v : ℕ) (m : Machine) (T : Tapes) (c : Place → List ℕ)
+    → step (Deal d e v) m T c .refusal ≡ 7
+    → modulus e ≤ v
 
 -- the words that an order writes on each channel, and the dealer's items that it takes
 abbrev pub wordsOf : Work → ℕ
@@ -195,6 +214,19 @@ ComposeLeaves = (d x f : ℕ) (m : Machine) (T : Tapes) (c : Place → List ℕ)
     → step (Compose d x f) m T c .refusal ≡ 0
     → length (m .slots) ≡ 16
     → valueAt (step (Compose d x f) m T c .machine) d ≡ valueAt m x % modulus f
+
+-- decomposed at l = e-2 and composed in the same ring, e being the width of register x: a is back, in register k, whatever the tapes
+-- of either order, and whatever the channels hold when the second starts
+abbrev pub RoundTrip : Type 0
+RoundTrip = (d k x : ℕ) (m : Machine) (T T′ : Tapes) (c c′ : Place → List ℕ)
+    → (let e = widthAt (kindAt (publicOf m) x) in
+    let bits = step (Decompose d x (e - 2)) m T c in
+    let back = step (Compose k d e) (bits .machine) T′ c′ in
+    bits .refusal ≡ 0
+    → back .refusal ≡ 0
+    → length (m .slots) ≡ 16
+    → 4 * valueAt m x < modulusAt (publicOf m) x
+    → valueAt (back .machine) k ≡ valueAt m x)
 
 -- the same for all sub-shares, with no condition on a: e is the width of register x and X the total of its 4 a_i modulo p
 
