@@ -86,7 +86,10 @@ enum {
     SURVEY_PREPARED_WORDS = 2
 };
 
-/* 01's refusals, and 14 of this interface. A refusal changes no record, position, channel or run. */
+/*
+ * 01's refusals, and one of this interface: 100, so that 02's numbers 14 to 23 stay free.
+ * A refusal changes no record, position, channel or run.
+ */
 enum {
     SURVEY_DONE = 0,
     SURVEY_UNSOUND_RECORD = 1,
@@ -101,7 +104,7 @@ enum {
     SURVEY_ITEM_OUT_OF_RANGE = 10,
     SURVEY_CHANNEL_TOO_SHORT = 11,
     SURVEY_RAW_WORDS_RAN_OUT = 12, /* survey_prepare only */
-    SURVEY_MALFORMED = 14          /* words in no layout: the answer is left as it was, too */
+    SURVEY_MALFORMED = 100         /* words in no layout: the answer is left as it was, too */
 };
 
 /*

@@ -4,7 +4,7 @@ use crate::record::{Record, Register};
 use crate::ring::Ring;
 use crate::step::{step, with_three, Order, Runs};
 
-const MALFORMED: u64 = 14;
+const MALFORMED: u64 = 100;
 
 fn read_register(words: &[u64]) -> Option<Register> {
     match *words {
@@ -44,7 +44,7 @@ fn read_order(words: &[u64]) -> Option<Order> {
     }
 }
 
-/// One order on the words of a record; 14 changes nothing.
+/// One order on the words of a record; MALFORMED changes nothing.
 pub fn step_words(order: &[u64], words: &mut [u64], runs: Runs, answer: &mut [u64]) -> u64 {
     let (Ok(words), Ok(answer)) = (
         <&mut [u64; 83]>::try_from(words),

@@ -12,8 +12,8 @@ pub const ORDER_WORDS: usize = 4;
 pub const ANSWER_WORDS: usize = 3;
 pub const COUNT_WORDS: usize = 2;
 
-/// Words that are not in the layout.
-pub const MALFORMED: Refusal = 14;
+/// Words that are not in the layout: 02's refusals 14 to 23 stay free.
+pub const MALFORMED: Refusal = 100;
 
 fn read_register(words: &[u64]) -> Option<Register> {
     match *words {
@@ -75,7 +75,7 @@ pub fn read_order(words: &[u64]) -> Option<Order> {
     }
 }
 
-/// A step on words; 14 changes nothing, not even the answer.
+/// A step on words; MALFORMED changes nothing, not even the answer.
 pub fn step_words(order: &[u64], record: &mut [u64], lent: &mut Lent, answer: &mut [u64]) -> u64 {
     let read = (read_order(order), read_record(record));
     let (Some(order), Some(mut after), ANSWER_WORDS) = (read.0, read.1, answer.len()) else {

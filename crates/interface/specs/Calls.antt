@@ -12,9 +12,9 @@ use Rattle.machine.specs.declared.orders.OfKind.the-variants.{Named, NoOrder}
 use Rattle.tape.specs.Tapes as prepared
 use Rattle.layout.specs.Layout.{MachineFound, found, machineOf, machineWords, none, orderOf}
 
--- the number returned for words in no layout, past 01's refusals
+-- the number returned for words in no layout: 02's refusals 14 to 23 stay free
 abbrev pub malformed : ℕ
-malformed = 14
+malformed = 100
 
 -- the number returned, and the words of record, answer and channels
 pub record Left : Type 0 where

@@ -2,5 +2,5 @@
 mod steps;
 mod tapes;
 
-// The number returned for words in no layout.
-const MALFORMED: u64 = 14;
+// The number returned for words in no layout: 02's refusals 14 to 23 stay free.
+const MALFORMED: u64 = 100;

@@ -1,6 +1,7 @@
 // One order on the words of a record.
 ghost use mathlib.Core.Path.{_≡_};
-ghost use Rattle.gate.specs.Places.{three};
+ghost use Rattle.gate.specs.Lent.{atEntry, atExit};
+ghost use Rattle.step.specs.Lent.{Stands, TapesStand, tapesAt};
 ghost use Rattle.interface.specs.Calls.{left, stepWords};
 use crate::MALFORMED;
 use layout::read_order;
@@ -24,7 +25,9 @@ pub extern "C" fn survey_step(
     c2: &mut [u64],
     answer: &mut [u64],
 ) -> u64
-    ensures { λ r. ⌜ left r (now («record» .exit)) (now (answer .exit)) (three (now (c0 .exit)) (now (c1 .exit)) (now (c2 .exit))) ≡ stepWords (now (order .entry)) (now («record» .entry)) (now (answer .entry)) (record { masks = three (now (m0 .entry)) (now (m1 .entry)) (now (m2 .entry)); dealer = now (dealer .entry) }) (three (now (c0 .entry)) (now (c1 .entry)) (now (c2 .entry))) ⌝ }
+    ensures is { λ r. ⌜ left r (now («record» .exit)) (now (answer .exit)) (atExit c0 c1 c2)
+        ≡ stepWords (now (order .entry)) (now («record» .entry)) (now (answer .entry)) (tapesAt m0 m1 m2 dealer) (atEntry c0 c1 c2) ⌝ }
+    ensures lent { λ r. ⌜ Stands order × TapesStand m0 m1 m2 dealer ⌝ }
 {
     if answer.len() != 3 {
         return MALFORMED;

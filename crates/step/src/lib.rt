@@ -7,11 +7,12 @@ pub use found::other;
 pub use found::source;
 pub use words::step_words;
 ghost use mathlib.Core.Path.{_≡_};
-ghost use Rattle.gate.specs.Places.{three};
+ghost use Rattle.gate.specs.Lent.{atEntry, atExit};
 ghost use Rattle.machine.specs.Step.{step};
 ghost use Rattle.order.specs.Answers.{reported};
 ghost use Rattle.order.specs.Changes.{Changes};
 ghost use Rattle.step.specs.Found.{foundIn};
+ghost use Rattle.step.specs.Lent.{TapesStand, tapesAt};
 use attempt::attempt;
 use exchange::deal;
 use exchange::open;
@@ -41,7 +42,7 @@ pub fn decide(
     c2: &mut [u64],
 ) -> Change
     requires { ⌜ ((m : Machine) × (found ≡ foundIn m o)) ⌝ }
-    ensures { λ k. ⌜ ((m : Machine) → found ≡ foundIn m o → Changes m k (three (now (c0 .exit)) (now (c1 .exit)) (now (c2 .exit))) (step o m (record { masks = three (now (m0 .entry)) (now (m1 .entry)) (now (m2 .entry)); dealer = now (dealer .entry) }) (three (now (c0 .entry)) (now (c1 .entry)) (now (c2 .entry))))) ⌝ }
+    ensures { λ k. ⌜ ((m : Machine) → found ≡ foundIn m o → Changes m k (atExit c0 c1 c2) (step o m (tapesAt m0 m1 m2 dealer) (atEntry c0 c1 c2))) ⌝ }
 {
     let s = found.sound;
     let a = found.a;
@@ -86,7 +87,8 @@ pub fn step(
     c1: &mut [u64],
     c2: &mut [u64],
 ) -> Outcome
-    ensures { λ r. ⌜ reported r (three (now (c0 .exit)) (now (c1 .exit)) (now (c2 .exit))) ≡ step o m (record { masks = three (now (m0 .entry)) (now (m1 .entry)) (now (m2 .entry)); dealer = now (dealer .entry) }) (three (now (c0 .entry)) (now (c1 .entry)) (now (c2 .entry))) ⌝ }
+    ensures is { λ r. ⌜ reported r (atExit c0 c1 c2) ≡ step o m (tapesAt m0 m1 m2 dealer) (atEntry c0 c1 c2) ⌝ }
+    ensures lent { λ r. ⌜ TapesStand m0 m1 m2 dealer ⌝ }
 {
     let found = Found {
         sound: m.is_sound(),

@@ -1,9 +1,10 @@
 // One order on a record in words, which is changed where it stands.
 ghost use mathlib.Core.Path.{_≡_};
-ghost use Rattle.gate.specs.Places.{three};
+ghost use Rattle.gate.specs.Lent.{atEntry, atExit};
 ghost use Rattle.machine.specs.Registers.{sound};
 ghost use Rattle.machine.specs.Step.{step};
 ghost use Rattle.layout.specs.Layout.{Says};
+ghost use Rattle.step.specs.Lent.{TapesStand, tapesAt};
 ghost use Rattle.step.specs.Words.{Reports};
 use crate::decide;
 use crate::found::Found;
@@ -29,7 +30,9 @@ pub fn step_words(
     c2: &mut [u64],
 ) -> Answer
     requires { ⌜ ((m : Machine) × Says (now «record») m × (sure ≡ sound m)) ⌝ }
-    ensures { λ r. ⌜ ((m : Machine) → Says (now («record» .entry)) m → sure ≡ sound m → Reports (now («record» .exit)) r (three (now (c0 .exit)) (now (c1 .exit)) (now (c2 .exit))) (step o m (record { masks = three (now (m0 .entry)) (now (m1 .entry)) (now (m2 .entry)); dealer = now (dealer .entry) }) (three (now (c0 .entry)) (now (c1 .entry)) (now (c2 .entry))))) ⌝ }
+    ensures is { λ r. ⌜ ((m : Machine) → Says (now («record» .entry)) m → sure ≡ sound m
+        → Reports (now («record» .exit)) r (atExit c0 c1 c2) (step o m (tapesAt m0 m1 m2 dealer) (atEntry c0 c1 c2))) ⌝ }
+    ensures lent { λ r. ⌜ TapesStand m0 m1 m2 dealer ⌝ }
 {
     let found = Found {
         sound: sure,

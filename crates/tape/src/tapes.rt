@@ -2,6 +2,7 @@
 ghost use mathlib.Core.Path.{_≡_};
 ghost use Prim.Native.Nat.{_<_};
 ghost use lib.ListN.{length};
+ghost use Rattle.ring.specs.Lent.{Stands};
 ghost use Rattle.tape.specs.Tapes.{countOf, fill, outcome, prepared, refusalOf, settled};
 use crate::passes::enough;
 use crate::passes::fill_run;
@@ -53,7 +54,8 @@ fn prepare_items(width: u64, limit: u64, raw: &[u64], run: &mut [u64]) -> Prepar
 
 // Fills the run with items for a ring code, or leaves it as it was.
 pub fn prepare(code: u64, raw: &[u64], run: &mut [u64]) -> Prepared
-    ensures { λ r. ⌜ outcome r (now (run .exit)) ≡ prepared code (now (raw .entry)) (now (run .entry)) ⌝ }
+    ensures is { λ r. ⌜ outcome r (now (run .exit)) ≡ prepared code (now (raw .entry)) (now (run .entry)) ⌝ }
+    ensures lent { λ r. ⌜ Stands raw ⌝ }
 {
     if code == 1 {
         return prepare_items(1, 2, raw, run);

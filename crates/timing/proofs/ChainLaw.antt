@@ -11,7 +11,8 @@ use borrow.Rule.Slice.PartMut.{midOf, mid-len, putMid, set-mid-at}
 use lib.ListN.{length, length-append, length-map, set}
 use lib.Seq.{drop-cons, set-at}
 use Rattle.gate.specs.declared.sharing.Sharing.{Sharing}
-use Rattle.gate.specs.Places.{InRange, Sent}
+use Rattle.gate.specs.Places.{InRange, Place, Sent, p0, p1, p2, parts, three}
+use Rattle.gate.proofs.PlaceLaw.{each}
 use Rattle.ring.specs.declared.rings.OfWidth.{OfWidth}
 use Rattle.ring.specs.declared.rings.OfWidth.the-variants.{Named, NoRing}
 use Rattle.ring.specs.declared.rings.Ring.{Ring}
@@ -24,12 +25,12 @@ word-more : (f : Sharing → ℕ) (zs : List Sharing) (z : Sharing) {i : ℕ} (c
     → e ≡ set (midOf i (length d - i) d) 0 (f z)
     → putMid i (length d - i) d e ≡ written f (zs ++ (z ∷ [])) c
 unfolding written
-word-more f zs z {i} c d e count room same is stored =
+word-more f zs z {i} c d e count room same is head =
     let long = mid-len i (length d) d (omega arith) in
     let here : length (map f zs) ≡ i + 0 = rw length-map (omega arith) in
     let inside : length zs < length c = omega arith in
     rw (
-      stored,
+      head,
       set-mid-at i (length d - i) 0 d (f z) (omega arith),
       is,
       drop-cons c (length zs) 0 inside,
@@ -40,11 +41,16 @@ word-more f zs z {i} c d e count room same is stored =
       append-assoc,
     )
 
+-- the channels d with the words e as their parts from gate i on
+abbrev stored : ℕ → (d e : Place → List ℕ) → Place → List ℕ
+stored i d e =
+    three (putMid i (length (d p0) - i) (d p0) (e p0)) (putMid i (length (d p1) - i) (d p1) (e p1)) (putMid i (length (d p2) - i) (d p2) (e p2))
+
 -- gate i is reached: what is done, and what z leads to
-pub record Reached (p : ℕ) (x y : Sharing) (items c₀ c₁ c₂ : List ℕ) (i : ℕ) (z : Sharing) (d₀ d₁ d₂ : List ℕ) : Type 0 where
+pub record Reached (p : ℕ) (x y : Sharing) (items : List ℕ) (c : Place → List ℕ) (i : ℕ) (z : Sharing) (d : Place → List ℕ) : Type 0 where
   pub done : List Sharing
-  pub whole : chain p y items (length c₀) 0 x ≡ done ++ chain p y items (length c₀ - i) i z
-  pub ran : Ran done i c₀ c₁ c₂ d₀ d₁ d₂
+  pub whole : chain p y items (length (c p0)) 0 x ≡ done ++ chain p y items (length (c p0) - i) i z
+  pub ran : Ran done i c d
 
 -- what a test of the code says of the definition's
 pub test-of : {p q : ℕ} (s : Sharing) {found told : Bool} → q ≡ p → found ≡ inRange q s → found ≡ told → inRange p s ≡ told
@@ -57,52 +63,53 @@ range-of {p} {s} h =
     let first = and-eq-true-iff _ _ .0 (halves .0) in
     record { zero = ltb-true _ _ (first .0); one = ltb-true _ _ (first .1); two = ltb-true _ _ (halves .1) }
 
-module _ (p : ℕ) (x y : Sharing) (items c₀ c₁ c₂ : List ℕ) where
-  pub at-start : Reached p x y items c₀ c₁ c₂ 0 x c₀ c₁ c₂
+module _ (p : ℕ) (x y : Sharing) (items : List ℕ) (c : Place → List ℕ) where
+  pub at-start : Reached p x y items c 0 x c
   unfolding written
-  at-start = record { done = []; whole = rw sub-zero; ran = record { answers = refl; zero = refl; one = refl; two = refl } }
+  at-start = record { done = []; whole = rw sub-zero; ran = record { answers = refl; channels = λ k. refl } }
 
-  module _ {i : ℕ} {z : Sharing} {d₀ d₁ d₂ : List ℕ} (r : Reached p x y items c₀ c₁ c₂ i z d₀ d₁ d₂) where
+  module _ {i : ℕ} {z : Sharing} {d : Place → List ℕ} (r : Reached p x y items c i z d) where
     -- where the chain ends at z, what was done is all of it
-    ended : chain p y items (length c₀ - i) i z ≡ [] → Ran (chain p y items (length c₀) 0 x) i c₀ c₁ c₂ d₀ d₁ d₂
+    ended : chain p y items (length (c p0) - i) i z ≡ [] → Ran (chain p y items (length (c p0)) 0 x) i c d
     ended e = rw (r .whole, e, append-nil) (r .ran)
 
-    pub full : length c₀ ≤ i → Ran (chain p y items (length c₀) 0 x) i c₀ c₁ c₂ d₀ d₁ d₂
+    pub full : length (c p0) ≤ i → Ran (chain p y items (length (c p0)) 0 x) i c d
     unfolding chain
-    full h = let none : length c₀ - i ≡ 0 = omega arith in ended (rw none)
+    full h = let none : length (c p0) - i ≡ 0 = omega arith in ended (rw none)
 
-    pub stopped : {t : Sharing} → i < length c₀ → t ≡ tripleAt items (3 * i) → inRange p t ≡ false
-        → Ran (chain p y items (length c₀) 0 x) i c₀ c₁ c₂ d₀ d₁ d₂
+    pub stopped : {t : Sharing} → i < length (c p0) → t ≡ tripleAt items (3 * i) → inRange p t ≡ false
+        → Ran (chain p y items (length (c p0)) 0 x) i c d
     unfolding chain
     stopped h read out =
-        let split : length c₀ - i ≡ suc (length c₀ - (i + 1)) = omega arith in
+        let split : length (c p0) - i ≡ suc (length (c p0) - (i + 1)) = omega arith in
         ended (rw (split, ap (inRange p) (sym read) ∙ out))
 
     pub went-on : {t z′ : Sharing} {e₀ e₁ e₂ : List ℕ}
-        → i < length c₀ → length c₁ ≡ length c₀ → length c₂ ≡ length c₀
-        → length d₀ ≡ length c₀ → length d₁ ≡ length c₁ → length d₂ ≡ length c₂
+        → i < length (c p0) → length (c p1) ≡ length (c p0) → length (c p2) ≡ length (c p0)
+        → length (d p0) ≡ length (c p0) → length (d p1) ≡ length (c p1) → length (d p2) ≡ length (c p2)
         → t ≡ tripleAt items (3 * i) → inRange p t ≡ true → z′ ≡ gateOf p z y t
-        → Sent z′ (midOf i (length d₀ - i) d₀) (midOf i (length d₁ - i) d₁) (midOf i (length d₂ - i) d₂) e₀ e₁ e₂
-        → Reached p x y items c₀ c₁ c₂ (i + 1) z′ (putMid i (length d₀ - i) d₀ e₀) (putMid i (length d₁ - i) d₁ e₁) (putMid i (length d₂ - i) d₂ e₂)
+        → Sent z′ (midOf i (length (d p0) - i) (d p0)) (midOf i (length (d p1) - i) (d p1)) (midOf i (length (d p2) - i) (d p2)) e₀ e₁ e₂
+        → Reached p x y items c (i + 1) z′ (stored i d (three e₀ e₁ e₂))
     unfolding chain
-    went-on {t} {z′} h same₁ same₂ l₀ l₁ l₂ read fits is sent =
-        let split : length c₀ - i ≡ suc (length c₀ - (i + 1)) = omega arith in
+    went-on {t} {z′} {e₀} {e₁} {e₂} h same₁ same₂ l₀ l₁ l₂ read fits is sent =
+        let split : length (c p0) - i ≡ suc (length (c p0) - (i + 1)) = omega arith in
         let count : i + 1 ≡ length (r .done ++ (z′ ∷ [])) = rw length-append (omega (arith, r .ran .answers)) in
         record {
           done = r .done ++ (z′ ∷ []);
           whole = r .whole ∙ rw (split, ap (inRange p) (sym read) ∙ fits, append-assoc, is ∙ ap (gateOf p z y) read, add-one i);
           ran = record {
             answers = count;
-            zero = word-more _ (r .done) z′ c₀ d₀ _ (r .ran .answers) h l₀ (r .ran .zero) (sent .zero);
-            one = word-more _ (r .done) z′ c₁ d₁ _ (r .ran .answers) (omega arith) l₁ (r .ran .one) (sent .one);
-            two = word-more _ (r .done) z′ c₂ d₂ _ (r .ran .answers) (omega arith) l₂ (r .ran .two) (sent .two);
+            channels = each (λ k. stored i d (three e₀ e₁ e₂) k ≡ written (λ z. parts z k) (r .done ++ (z′ ∷ [])) (c k))
+                (word-more _ (r .done) z′ (c p0) (d p0) _ (r .ran .answers) h l₀ (r .ran .channels p0) (sent .zero))
+                (word-more _ (r .done) z′ (c p1) (d p1) _ (r .ran .answers) (omega arith) l₁ (r .ran .channels p1) (sent .one))
+                (word-more _ (r .done) z′ (c p2) (d p2) _ (r .ran .answers) (omega arith) l₂ (r .ran .channels p2) (sent .two));
           };
         }
 
 -- no gate is done
-pub nothing : (c₀ c₁ c₂ : List ℕ) → Ran [] 0 c₀ c₁ c₂ c₀ c₁ c₂
+pub nothing : (c : Place → List ℕ) → Ran [] 0 c c
 unfolding written
-nothing c₀ c₁ c₂ = record { answers = refl; zero = refl; one = refl; two = refl }
+nothing c = record { answers = refl; channels = λ k. refl }
 
 pub started-as : {p q : ℕ} {a b told : Bool} (x y : Sharing) (items : List ℕ) (n : ℕ)
     → q ≡ p → a ≡ inRange q x → b ≡ inRange q y → a && b ≡ told
@@ -110,20 +117,20 @@ pub started-as : {p q : ℕ} {a b told : Bool} (x y : Sharing) (items : List ℕ
 unfolding started
 started-as x y items n hp ha hb test = rw (← hp, ← ha, ← hb, test)
 
-module _ (width : ℕ) (x y items c₀ c₁ c₂ : List ℕ) {found : OfWidth} (is : found ≡ ringOf width) where
-  pub no-ring : found ≡ NoRing → Ran (gates width x y items c₀ c₁ c₂) 0 c₀ c₁ c₂ c₀ c₁ c₂
+module _ (width : ℕ) (x y items : List ℕ) (c : Place → List ℕ) {found : OfWidth} (is : found ≡ ringOf width) where
+  pub no-ring : found ≡ NoRing → Ran (gates width x y items c) 0 c c
   unfolding gates
-  no-ring none = rw (← is, none) (nothing c₀ c₁ c₂)
+  no-ring none = rw (← is, none) (nothing c)
 
   module _ {r : Ring} {fit : Bool} (named : found ≡ Named r)
-      (test : fit ≡ shaped (length x) (length y) (length items) (length c₀) (length c₁) (length c₂)) where
-    pub misfit : fit ≡ false → Ran (gates width x y items c₀ c₁ c₂) 0 c₀ c₁ c₂ c₀ c₁ c₂
+      (test : fit ≡ shaped (length x) (length y) (length items) (length (c p0)) (length (c p1)) (length (c p2))) where
+    pub misfit : fit ≡ false → Ran (gates width x y items c) 0 c c
     unfolding gates
-    misfit said = rw (← is, named, ← test, said) (nothing c₀ c₁ c₂)
+    misfit said = rw (← is, named, ← test, said) (nothing c)
 
-    pub ran-all : {s t : Sharing} {n : ℕ} {d₀ d₁ d₂ : List ℕ} → fit ≡ true → s ≡ tripleAt x 0 → t ≡ tripleAt y 0
-        → Ran (started (modulusOf r) s t items (length c₀)) n c₀ c₁ c₂ d₀ d₁ d₂
-        → Ran (gates width x y items c₀ c₁ c₂) n c₀ c₁ c₂ d₀ d₁ d₂
+    pub ran-all : {s t : Sharing} {n : ℕ} {d : Place → List ℕ} → fit ≡ true → s ≡ tripleAt x 0 → t ≡ tripleAt y 0
+        → Ran (started (modulusOf r) s t items (length (c p0))) n c d
+        → Ran (gates width x y items c) n c d
     unfolding gates
     ran-all said left right ran = rw (← is, named, ← test, said, ← left, ← right) ran
 

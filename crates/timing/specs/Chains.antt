@@ -10,7 +10,7 @@ use Rattle.ring.specs.declared.rings.OfWidth.the-variants.{Named, NoRing}
 use Rattle.ring.specs.Rings.{modulusOf, ringOf}
 use Rattle.gate.specs.declared.sharing.Sharing.{Sharing}
 use Rattle.gate.specs.Gates.{gated}
-use Rattle.gate.specs.Places.{parts, sharing}
+use Rattle.gate.specs.Places.{Place, p0, p1, p2, parts, sharing}
 use Rattle.timing.specs.Products.{alike}
 
 -- three words, from an index on
@@ -42,17 +42,17 @@ started p x y items n = cond (inRange p x && inRange p y) (chain p y items n 0 x
 unfoldable pub shaped : ℕ → ℕ → ℕ → ℕ → ℕ → ℕ → Bool
 shaped x y items n₀ n₁ n₂ = eqb x 3 && eqb y 3 && alike n₁ n₂ n₀ && leb n₀ (items / 3)
 
-abbrev pub gatesIn : OfWidth → List ℕ → List ℕ → List ℕ → List ℕ → List ℕ → List ℕ → List Sharing
-gatesIn (Named r) x y items c₀ c₁ c₂ =
+abbrev pub gatesIn : OfWidth → (x y items : List ℕ) → (Place → List ℕ) → List Sharing
+gatesIn (Named r) x y items c =
     cond
-    (shaped (length x) (length y) (length items) (length c₀) (length c₁) (length c₂))
-    (started (modulusOf r) (tripleAt x 0) (tripleAt y 0) items (length c₀))
+    (shaped (length x) (length y) (length items) (length (c p0)) (length (c p1)) (length (c p2)))
+    (started (modulusOf r) (tripleAt x 0) (tripleAt y 0) items (length (c p0)))
     []
-gatesIn NoRing x y items c₀ c₁ c₂ = []
+gatesIn NoRing x y items c = []
 
 -- the gates done
-unfoldable pub gates : ℕ → List ℕ → List ℕ → List ℕ → List ℕ → List ℕ → List ℕ → List Sharing
-gates width x y items c₀ c₁ c₂ = gatesIn (ringOf width) x y items c₀ c₁ c₂
+unfoldable pub gates : ℕ → (x y items : List ℕ) → (Place → List ℕ) → List Sharing
+gates width x y items c = gatesIn (ringOf width) x y items c
 
 -- a channel with the words of the gates at its head, the rest as it was
 unfoldable pub written : (Sharing → ℕ) → List Sharing → List ℕ → List ℕ
@@ -65,8 +65,6 @@ pub record Shape (items c₀ c₁ c₂ : List ℕ) : Type 0 where
   pub enough : length c₀ ≤ length items / 3
 
 -- the answer is the number of gates, and each channel has their words: c at entry, d at exit
-pub record Ran (zs : List Sharing) (answer : ℕ) (c₀ c₁ c₂ d₀ d₁ d₂ : List ℕ) : Type 0 where
+pub record Ran (zs : List Sharing) (answer : ℕ) (c d : Place → List ℕ) : Type 0 where
   pub answers : answer ≡ length zs
-  pub zero : d₀ ≡ written (λ z. z .s0) zs c₀
-  pub one : d₁ ≡ written (λ z. z .s1) zs c₁
-  pub two : d₂ ≡ written (λ z. z .s2) zs c₂
+  pub channels : (i : Place) → d i ≡ written (λ z. parts z i) zs (c i)

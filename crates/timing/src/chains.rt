@@ -2,7 +2,9 @@
 ghost use mathlib.Core.Path.{_≡_};
 ghost use Prim.Native.Nat.{_+_, _≤_};
 ghost use lib.ListN.{length};
+ghost use Rattle.gate.specs.Lent.{atEntry, atExit};
 ghost use Rattle.gate.specs.Places.{InRange};
+ghost use Rattle.ring.specs.Lent.{Stands};
 ghost use Rattle.ring.specs.Rings.{modulusOf};
 ghost use Rattle.timing.specs.Chains.{Ran, Shape, chain, gates, inRange, shaped, started, tripleAt};
 use crate::products::same_lengths;
@@ -50,7 +52,7 @@ fn run_chain(
     requires left { ⌜ InRange (modulusOf r) x ⌝ }
     requires right { ⌜ InRange (modulusOf r) y ⌝ }
     requires lengths { ⌜ Shape (now items) (now c0) (now c1) (now c2) ⌝ }
-    ensures { λ n. ⌜ Ran (chain (modulusOf r) y (now (items .entry)) (length (now (c0 .entry))) 0 x) n (now (c0 .entry)) (now (c1 .entry)) (now (c2 .entry)) (now (c0 .exit)) (now (c1 .exit)) (now (c2 .exit)) ⌝ }
+    ensures { λ n. ⌜ Ran (chain (modulusOf r) y (now (items .entry)) (length (now (c0 .entry))) 0 x) n (atEntry c0 c1 c2) (atExit c0 c1 c2) ⌝ }
 {
     let p = r.modulus();
     let mut z = x;
@@ -77,7 +79,7 @@ fn start_chain(
     c2: &mut [u64],
 ) -> usize
     requires { ⌜ Shape (now items) (now c0) (now c1) (now c2) ⌝ }
-    ensures { λ n. ⌜ Ran (started (modulusOf r) x y (now (items .entry)) (length (now (c0 .entry)))) n (now (c0 .entry)) (now (c1 .entry)) (now (c2 .entry)) (now (c0 .exit)) (now (c1 .exit)) (now (c2 .exit)) ⌝ }
+    ensures { λ n. ⌜ Ran (started (modulusOf r) x y (now (items .entry)) (length (now (c0 .entry)))) n (atEntry c0 c1 c2) (atExit c0 c1 c2) ⌝ }
 {
     let p = r.modulus();
     if in_range(p, x) & in_range(p, y) {
@@ -97,7 +99,8 @@ pub extern "C" fn timing_gate(
     c1: &mut [u64],
     c2: &mut [u64],
 ) -> u64
-    ensures { λ n. ⌜ Ran (gates width (now (x .entry)) (now (y .entry)) (now (items .entry)) (now (c0 .entry)) (now (c1 .entry)) (now (c2 .entry))) n (now (c0 .entry)) (now (c1 .entry)) (now (c2 .entry)) (now (c0 .exit)) (now (c1 .exit)) (now (c2 .exit)) ⌝ }
+    ensures is { λ n. ⌜ Ran (gates width (now (x .entry)) (now (y .entry)) (now (items .entry)) (atEntry c0 c1 c2)) n (atEntry c0 c1 c2) (atExit c0 c1 c2) ⌝ }
+    ensures lent { λ n. ⌜ Stands x × Stands y × Stands items ⌝ }
 {
     match Ring::of_width(width) {
         OfWidth::Named(r) => {

@@ -2,6 +2,7 @@
 ghost use mathlib.Core.Path.{_≡_};
 ghost use Prim.Native.Nat.{_+_, _*_, _≤_};
 ghost use lib.ListN.{length};
+ghost use Rattle.ring.specs.Lent.{Stands};
 ghost use Rattle.ring.specs.Rings.{modulus, modulusOf};
 ghost use Rattle.timing.specs.Products.{alike, multiplied, outcome, product, products};
 use ring::OfWidth;
@@ -47,7 +48,8 @@ fn multiply_all(r: Ring, xs: &[u64], ys: &[u64], zs: &mut [u64])
 // Products in the ring of a width, for slices of one length; answers how many.
 #[no_mangle]
 pub extern "C" fn timing_multiply(width: u64, xs: &[u64], ys: &[u64], zs: &mut [u64]) -> u64
-    ensures { λ n. ⌜ outcome n (now (zs .exit)) ≡ multiplied width (now (xs .entry)) (now (ys .entry)) (now (zs .entry)) ⌝ }
+    ensures is { λ n. ⌜ outcome n (now (zs .exit)) ≡ multiplied width (now (xs .entry)) (now (ys .entry)) (now (zs .entry)) ⌝ }
+    ensures lent { λ n. ⌜ Stands xs × Stands ys ⌝ }
 {
     match Ring::of_width(width) {
         OfWidth::Named(r) => {

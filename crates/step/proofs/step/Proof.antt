@@ -1,4 +1,4 @@
-use mathlib.Core.Path.{_≡_}
+use mathlib.Core.Path.{_≡_, refl}
 use borrow.Author.Needs.{needs}
 use Rattle.gate.specs.Places.{three}
 use Rattle.step.specs.Found.{foundIn}
@@ -38,10 +38,12 @@ done c =
     let called = c .before .before .before .before .before .before .before in
     let k = called .before .before .before .before in
     let a = start k .args in
-    let left = called .decide .last .1 .1 .1 .1 .1 .1 in
-    answered {l = three (left .0) (left .1 .0) (left .1 .1 .0)} (a .o) (a .m)
-    (record { masks = three (a .m0 .now) (a .m1 .now) (a .m2 .now); dealer = a .dealer .now }) (three (a .c0 .now) (a .c1 .now) (a .c2 .now))
-    (c .apply .ensures (three (left .0) (left .1 .0) (left .1 .1 .0))) (called .decide .ensures (a .m) (found k))
+    let left = called .decide .last .1 .1 .1 .1 .1 .1 in (
+      answered {l = three (left .0) (left .1 .0) (left .1 .1 .0)} (a .o) (a .m)
+          (record { masks = three (a .m0 .now) (a .m1 .now) (a .m2 .now); dealer = a .dealer .now }) (three (a .c0 .now) (a .c1 .now) (a .c2 .now))
+          (c .apply .ensures (three (left .0) (left .1 .0) (left .1 .1 .0))) (called .decide .ensures (a .m) (found k)),
+      (refl, refl, refl, refl),
+    )
 
 pub step-spec : {M : Type 1} → statement M
 step-spec =

@@ -9,8 +9,8 @@ nothing : tie.Need-returns
 nothing c =
     let called = c .before .before .before .before in
     let p = called .prepare .result in
-    let drew = nothing-drawn _ _ p (called .prepare .ensures) (c .before .refusal .ensures) _ (c .if1 .taken) in
-    (drew, (run-is p (called .prepare .ensures), omega arith))
+    let drew = nothing-drawn _ _ p (called .prepare .ensures .0) (c .before .refusal .ensures) _ (c .if1 .taken) in
+    (drew, (run-is p (called .prepare .ensures .0), omega arith))
 
 some : tie.Need-returns-2
 some c =
@@ -19,8 +19,8 @@ some c =
     let called = told .before .before .before in
     let p = called .prepare .result in
     let drew =
-    lines-drawn _ _ p (called .prepare .ensures) (told .refusal .ensures) (printed .before .before .before .if1 .left) (printed .put-lines .ensures .0) in
-    (drew, (run-is p (called .prepare .ensures), printed .put-lines .ensures .1))
+    lines-drawn _ _ p (called .prepare .ensures .0) (told .refusal .ensures) (printed .before .before .before .if1 .left) (printed .put-lines .ensures .0) in
+    (drew, (run-is p (called .prepare .ensures .0), printed .put-lines .ensures .1))
 
 pub draw-run-spec : {M : Type 1} → statement M
 draw-run-spec =

@@ -1,7 +1,7 @@
 -- Each way out of a call is what the definition leaves.
 use Prim.Native.Nat.{ℕ}
 use mathlib.Core.List.{List}
-use mathlib.Core.Path.{_≡_, sym, _∙_}
+use mathlib.Core.Path.{_≡_, refl, sym, _∙_}
 use borrow.Author.Needs.{needs}
 use Rattle.gate.specs.Places.{Place, three}
 use Rattle.machine.specs.Checks.{Tapes}
@@ -36,14 +36,16 @@ no-answer : tie.Need-returns
 no-answer c =
     let k = c .before in
     let a = start k .args in
-    answer-length (a .order .now) (words k) (a .answer .now) (lent k) (channels k) (c .if1 .taken)
+    (answer-length (a .order .now) (words k) (a .answer .now) (lent k) (channels k) (c .if1 .taken), (refl, (refl, refl, refl, refl)))
 
 no-record : tie.Need-returns-2
 no-record c =
     let k = c .before .before .before .before .before in
-    let a = start k .args in
-    record-unread (a .order .now) (words k) (a .answer .now) (lent k) (channels k)
-    (seen-none (machineOf (words k)) (c .before .before .see .ensures) (c .if2 .taken))
+    let a = start k .args in (
+      record-unread (a .order .now) (words k) (a .answer .now) (lent k) (channels k)
+          (seen-none (machineOf (words k)) (c .before .before .see .ensures) (c .if2 .taken)),
+      (refl, (refl, refl, refl, refl)),
+    )
 
 -- the record that the words say
 module _ (c : tie.Else2) where
@@ -73,9 +75,11 @@ three-words c κs = known (c .before .before .before .before .before .before .be
 no-order : tie.Need-returns-3
 no-order c =
     let k = c .before .before .before .before .before .before .before .before in
-    let a = start k .args in
-    order-unread (a .order .now) (words k) (a .answer .now) (lent k) (channels k)
-    (sym (c .before .before .read-order .ensures) ∙ c .enum-told .given .1)
+    let a = start k .args in (
+      order-unread (a .order .now) (words k) (a .answer .now) (lent k) (channels k)
+          (sym (c .before .before .read-order .ensures) ∙ c .enum-told .given .1),
+      (refl, (refl, refl, refl, refl)),
+    )
 
 stepped : tie.Need-returns-4
 stepped c =
@@ -86,11 +90,13 @@ stepped c =
     let a = start k .args in
     let m = seen (known at) .0 in
     let o = order at .o .given .0 .0 in
-    let ends = called .step-words .last .1 .1 .1 .1 .1 .1 .1 in
-    step-left {c = three (ends .0) (ends .1 .0) (ends .1 .1 .0)} {x = step o m (lent k) (channels k)}
-    (called .step-words .ensures m (says (known at)) (seen (known at) .2)) (c .refusal .ensures) (answered .write-answer .ensures)
-    ∙ step-read (a .order .now) (words k) (a .answer .now) (lent k) (channels k) (known at .before .before .before .before .if1 .left)
-    (sym (order at .before .before .read-order .ensures) ∙ order at .o .given .1) (seen (known at) .1)
+    let ends = called .step-words .last .1 .1 .1 .1 .1 .1 .1 in (
+      step-left {c = three (ends .0) (ends .1 .0) (ends .1 .1 .0)} {x = step o m (lent k) (channels k)}
+          (called .step-words .ensures .0 m (says (known at)) (seen (known at) .2)) (c .refusal .ensures) (answered .write-answer .ensures)
+          ∙ step-read (a .order .now) (words k) (a .answer .now) (lent k) (channels k) (known at .before .before .before .before .if1 .left)
+          (sym (order at .before .before .read-order .ensures) ∙ order at .o .given .1) (seen (known at) .1),
+      (refl, (refl, refl, refl, refl)),
+    )
 
 pub survey-step-spec : {M : Type 1} → statement M
 survey-step-spec =

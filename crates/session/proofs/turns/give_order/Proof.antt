@@ -25,7 +25,7 @@ done c =
     let left = called .step-words .last .1 .1 in
     let ends = left .1 .1 .1 .1 .1 in
     let after : Place → List ℕ = three (ends .0) (ends .1 .0) (ends .1 .1 .0) in
-    let told = called .step-words .ensures (machineIn (a .«record» .now)) (fits .says) (sym (fits .sound)) in (
+    let told = called .step-words .ensures .0 (machineIn (a .«record» .now)) (fits .says) (sym (fits .sound)) in (
       order-taken (a .n) (a .o) (a .«record» .now) (a .m0 .now) (a .m1 .now) (a .m2 .now) (a .dealer .now) channels
           (left .0) (called .step-words .result) after told (c .before .refusal .ensures) (c .value .ensures),
       (

@@ -1,7 +1,7 @@
 -- What is found in the words is decided, and the change is written to them.
 use Prim.Native.Nat.{ℕ}
 use mathlib.Core.List.{List}
-use mathlib.Core.Path.{_≡_}
+use mathlib.Core.Path.{_≡_, refl}
 use native.Mathlib.Omega.{arith}
 use borrow.Author.Needs.{needs}
 use lib.ListN.{getD}
@@ -73,16 +73,19 @@ fits c κs =
     (given .0, given .1, called .decide .ensures (given .0) (finds r (given .0) (given .1) (given .2)) .fits)
 
 done : tie.Need-returns
-done c = λ m says is.
+done c =
     let changed = c .before .before .before in
     let called = changed .before .before .before .before .before .before .before .before in
     let r = called .before .before .before .before .before .before .before in
     let a = begun r .args in
     let left = called .decide .last .1 .1 .1 .1 .1 .1 in
-    let told = called .decide .ensures m (finds r m says is) in
-    let lent : Tapes = record { masks = three (a .m0 .now) (a .m1 .now) (a .m2 .now); dealer = a .dealer .now } in
-    written {c = three (left .0) (left .1 .0) (left .1 .1 .0)} {x = step (a .o) m lent (three (a .c0 .now) (a .c1 .now) (a .c2 .now))} (c .answer .ensures)
-    (changed .write-change .ensures m says (told .fits)) told
+    let lent : Tapes = record { masks = three (a .m0 .now) (a .m1 .now) (a .m2 .now); dealer = a .dealer .now } in (
+      (λ m says is.
+          let told = called .decide .ensures m (finds r m says is) in
+          written {c = three (left .0) (left .1 .0) (left .1 .1 .0)} {x = step (a .o) m lent (three (a .c0 .now) (a .c1 .now) (a .c2 .now))} (c .answer .ensures)
+          (changed .write-change .ensures m says (told .fits)) told),
+      (refl, refl, refl, refl),
+    )
 
 pub step-words-spec : {M : Type 1} → statement M
 step-words-spec =

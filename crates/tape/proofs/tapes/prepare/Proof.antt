@@ -1,5 +1,5 @@
 -- The tests that led to each call decide what the ring code asks for.
-use mathlib.Core.Path.{sym, _∙_}
+use mathlib.Core.Path.{refl, sym, _∙_}
 use native.Mathlib.Omega.{arith}
 use borrow.Author.Needs.{needs}
 use Rattle.ring.proofs.RangeLaw.{width-le}
@@ -8,7 +8,7 @@ use Rattle.tape.proofs.tapes.prepare.Statement.{statement}
 use Rattle.tape.proofs.tapes.prepare.Tie as tie
 
 bits : tie.Need-returns
-bits c = c .before .before .prepare-items .ensures ∙ sym (bits-asked _ _ _ (c .before .before .before .before .if1 .taken))
+bits c = (c .before .before .prepare-items .ensures ∙ sym (bits-asked _ _ _ (c .before .before .before .before .if1 .taken)), refl)
 
 narrow : tie.Need-prepare-items-requires-2
 narrow c κs = omega (arith, c .before .before .width .ensures, width-le (c .before .before .before .before .ring .given .0 .0))
@@ -18,13 +18,15 @@ in-ring c =
     let called = c .before .before in
     let named = called .before .before .before .before .before in
     let found = named .before .before in
-    rw (called .before .before .before .width .ensures, called .before .before .modulus .ensures) at (called .prepare-items2 .ensures)
-    ∙ sym (ring-asked _ _ _ (found .before .if1 .left) (sym (found .of-width .ensures) ∙ named .ring .given .1))
+    let asked = ring-asked _ _ _ (found .before .if1 .left) (sym (found .of-width .ensures) ∙ named .ring .given .1) in (
+      rw (called .before .before .before .width .ensures, called .before .before .modulus .ensures) at (called .prepare-items2 .ensures) ∙ sym asked,
+      refl,
+    )
 
 refusal : tie.Need-returns-3
 refusal c =
     let found = c .before .before in
-    sym (other-asked _ _ _ (found .before .if1 .left) (sym (found .of-width .ensures) ∙ c .enum-told .given .1))
+    (sym (other-asked _ _ _ (found .before .if1 .left) (sym (found .of-width .ensures) ∙ c .enum-told .given .1)), refl)
 
 pub prepare-spec : {M : Type 1} → statement M
 prepare-spec =

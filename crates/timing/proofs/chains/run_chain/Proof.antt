@@ -6,7 +6,7 @@ use borrow.Author.Needs.{needs}
 use borrow.Author.Tests.{not-false, not-true}
 use borrow.Rule.Slice.PartMut.{mid-len, same-len-mid}
 use lib.ListN.{length}
-use Rattle.gate.specs.Places.{InRange}
+use Rattle.gate.specs.Places.{InRange, three}
 use Rattle.ring.specs.Rings.{modulusOf}
 use Rattle.timing.proofs.ChainLaw.{Reached, at-start, full, range-of, stopped, test-of, went-on}
 use Rattle.timing.proofs.chains.run_chain.Statement.{statement}
@@ -15,20 +15,20 @@ use Rattle.timing.proofs.chains.run_chain.Tie as tie
 abbrev Inv-loop : tie.InvT-loop
 Inv-loop r y items c0₀ c1₀ c2₀ p z₀ i₀ c0 c1 c2 z i =
     (length c0 ≡ length c0₀) × (length c1 ≡ length c1₀) × (length c2 ≡ length c2₀) × (i ≤ length c0₀)
-    × InRange (modulusOf r) z × Reached (modulusOf r) z₀ y items c0₀ c1₀ c2₀ i z c0 c1 c2
+    × InRange (modulusOf r) z × Reached (modulusOf r) z₀ y items (three c0₀ c1₀ c2₀) i z (three c0 c1 c2)
 
 abbrev μ-loop : tie.MeasureT-loop
 μ-loop r y items c0₀ c1₀ c2₀ p z₀ i₀ c0 c1 c2 z i = length c0₀ - i
 
 holds : tie.Need-loop-holds Inv-loop μ-loop
-holds c = (refl, refl, refl, omega arith, c .before .before .before .before .before .pre .0, at-start _ _ _ _ _ _ _)
+holds c = (refl, refl, refl, omega arith, c .before .before .before .before .before .pre .0, at-start _ _ _ _ _)
 
 -- an item out of range ends the chain
 out : tie.Need-returns Inv-loop μ-loop
 out c =
     let at-triple = c .before .before in
     let head = at-triple .before .before in
-    stopped _ _ _ _ _ _ _ (head .loop .inv .5) (omega arith) (at-triple .triple .ensures)
+    stopped _ _ _ _ _ (head .loop .inv .5) (omega arith) (at-triple .triple .ensures)
     (test-of _ (head .before .modulus .ensures) (c .before .in-range .ensures) (not-true _ (c .if1 .taken)))
 
 requires : tie.Need-ring-gate-requires Inv-loop μ-loop
@@ -66,7 +66,7 @@ again c =
       same-len-mid i (length (head .loop .c2) - i) (head .loop .c2) (last .1 .1 .0) (kept .1 .1 .0) ∙ inv .2,
       omega (arith, at-triple .before .loop-test .taken, inv .0),
       called .ring-gate .ensures .1 .0,
-      went-on _ _ _ _ _ _ _ (inv .5) (omega (arith, at-triple .before .loop-test .taken, inv .0)) (start .pre .1 .1 .one) (start .pre .1 .1 .two)
+      went-on _ _ _ _ _ (inv .5) (omega (arith, at-triple .before .loop-test .taken, inv .0)) (start .pre .1 .1 .one) (start .pre .1 .1 .two)
           (inv .0) (inv .1) (inv .2)
           (at-triple .triple .ensures)
           (test-of _ (head .before .modulus .ensures) (tested .before .in-range .ensures) (not-false _ (tested .if1 .left)))
@@ -75,7 +75,7 @@ again c =
     )
 
 done : tie.Need-returns-2 Inv-loop μ-loop
-done c = full _ _ _ _ _ _ _ (c .before .loop .inv .5) (omega arith)
+done c = full _ _ _ _ _ (c .before .loop .inv .5) (omega arith)
 
 pub run-chain-spec : {M : Type 1} → statement M
 run-chain-spec =

@@ -32,7 +32,7 @@ refused c =
     let second = c .before in
     let first = second .before in
     rw (started-as _ _ _ _ (first .before .modulus .ensures) (first .in-range .ensures) (second .in-range2 .ensures) (c .if1 .left))
-    (nothing _ _ _)
+    (nothing _)
 
 pub start-chain-spec : {M : Type 1} → statement M
 start-chain-spec =
