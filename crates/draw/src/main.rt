@@ -1,11 +1,11 @@
 // Prints tape lines for a job: `draw RING COUNT masks` or `draw RING COUNT dealer`, from raw bytes on standard input.
 ghost use Prim.Native.Nat.{_≤_};
+ghost use lib.ListN.{length};
 ghost use Rattle.drawing.specs.Asks.{Few};
 use drawing::Asked;
 use drawing::Kind;
 use libc::STDERR_FILENO;
 use libc::STDIN_FILENO;
-use libc::STDOUT_FILENO;
 
 fn main() {
     if os::arg_count() != 4 {
@@ -37,19 +37,55 @@ fn say(text: &[u8]) {
     io::write_all(STDERR_FILENO, text);
 }
 
-// Reads as many raw bytes as there are, at most 65,536.
+// How many raw bytes were read, and whether the system could read them all.
+struct Raw {
+    count: usize,
+    able: bool,
+}
+
+// Reads until the run is full or the input ends.
+fn read_raw(raw: &mut [u8]) -> Raw
+    ensures { λ r. ⌜ r .count ≤ length (now (raw .exit)) ⌝ }
+{
+    let mut n = 0;
+    while n < raw.len() {
+        let got = libc::read(STDIN_FILENO, &mut raw[n..]);
+        streams::tell_unread(b"draw: standard input", got);
+        if got < 0 {
+            return Raw {
+                count: n,
+                able: false,
+            };
+        }
+        let more = io::count(got, &raw[n..]);
+        if more == 0 {
+            break;
+        }
+        n += more;
+    }
+    Raw {
+        count: n,
+        able: true,
+    }
+}
+
+// Reads as many raw bytes as there are, at most 65,536, and prints all lines or none.
 fn print_lines(code: u64, count: u64, kind: Kind)
     requires { ⌜ count ≤ 512 ⌝ }
 {
-    let mut raw = io::large_buffer();
+    let mut bytes = io::large_buffer();
     let mut out = io::large_buffer();
-    let got = io::read_full(STDIN_FILENO, &mut raw);
-    let drawn = drawing::draw(code, count as usize, kind, &raw[..got], &mut out);
+    let raw = read_raw(&mut bytes);
+    if !raw.able {
+        return;
+    }
+    let got = raw.count;
+    let drawn = drawing::draw(code, count as usize, kind, &bytes[0..got], &mut out);
     let length = drawn.length;
     // The ring code is one that there is, so a refusal says that the raw words ran out.
     if drawn.refusal != 0 {
         say(b"draw: too few raw bytes on standard input\n");
         return;
     }
-    io::write_all(STDOUT_FILENO, &out[0..length]);
+    streams::write(b"draw: standard output", &out[0..length]);
 }

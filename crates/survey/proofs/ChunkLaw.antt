@@ -1,18 +1,15 @@
 -- A chunk by its bytes, and the end of input.
 use Prim.Native.Nat.{ℕ, _-_, _*_, _≤_}
-use native.Mathlib.Nat.{min-le-right}
 use mathlib.Core.Bool.{Bool, false, true}
 use mathlib.Core.List.{List}
 use mathlib.Core.Path.{_≡_, refl}
 use native.Mathlib.Omega.{arith}
-use lib.IntN.{ℤ, negsuc, pos}
 use lib.ListN.{length, length-take, take}
-use Rattle.io.specs.Counts.{clamped}
 use Rattle.line.specs.Printed.{Wrote}
 use Rattle.machine.specs.Step.{written}
-use Rattle.session.specs.Standings.{Standing, afterBytes, afterLast, printedBy, printedLast}
+use Rattle.session.specs.Standings.{Standing, afterLast, printedLast}
 use Rattle.session.proofs.ReplyLaw.{wrote-none}
-use Rattle.survey.specs.Chunks.{Took, afterInput, bytesRead, printedAfter}
+use Rattle.survey.specs.Chunks.{afterInput, printedAfter}
 
 -- the first n bytes of a buffer, as a part of it
 pub first-bytes : {n k : ℕ} (buf : List ℕ) → n ≡ k → take (n - 0) buf ≡ take k buf
@@ -21,18 +18,6 @@ first-bytes {n} {k} buf e = let same : n - 0 ≡ k = omega arith in rw same refl
 -- are no longer than it
 pub first-room : (n : ℕ) {room : ℕ} (buf : List ℕ) → 105 * length buf ≤ room → 105 * length (take n buf) ≤ room
 first-room n buf h = omega (arith, length-take n buf)
-
--- a read's bytes are within its buffer
-clamped-within : (got : ℤ) (most : ℕ) → clamped got most ≤ most
-clamped-within (pos n) most = min-le-right n most
-clamped-within (negsuc n) most = omega arith
-
--- a chunk, by what its read answered
-pub took : (w : Standing) {v : Standing} {count next : ℕ} (got : ℤ) (buf : List ℕ) {entry exit : List ℕ} → count ≡ clamped got (length buf)
-    → v ≡ afterBytes w (bytesRead got buf) → Wrote 0 (printedBy w (bytesRead got buf)) entry exit next
-    → Took w v count buf entry exit
-took w got buf e after wrote =
-    record { within = rw e (clamped-within got (length buf)); after = rw e after; prints = rw e (wrote .run) }
 
 -- the end of input: where the job stands, and what the output holds
 abbrev Ends : Bool → (w v : Standing) (entry exit : List ℕ) → Type 0

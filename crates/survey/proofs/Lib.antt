@@ -1,2 +1,3 @@
 pub mod ChunkLaw
 pub mod LoopLaw
+pub mod Theorems

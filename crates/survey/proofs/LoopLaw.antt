@@ -3,17 +3,17 @@ use Prim.Native.Nat.{ℕ, _+_, _-_, _≤_, _<_, _^_}
 use mathlib.Core.Bool.{Bool, cond, false, true}
 use mathlib.Core.List.{List, [], _∷_, _++_}
 use mathlib.Core.Logic.{inl, inr}
-use mathlib.Core.Path.{_≡_, ap, refl, subst, _∙_}
-use native.Mathlib.Nat.{min-eq-left}
+use mathlib.Core.Path.{_≡_, ap, refl, _∙_}
 use native.Mathlib.Omega.{arith}
-use lib.ListN.{length, length-append, length-take, take}
+use lib.IntN.{ℤ}
+use lib.ListN.{length, length-append}
 use Rattle.gate.specs.Places.{three}
 use Rattle.session.specs.Kept.{atLine, emptyWords, noLines, standingOf}
 use Rattle.session.specs.Outputs.{zeroWords}
-use Rattle.session.specs.Standings.{Standing, afterBytes}
+use Rattle.session.specs.Standings.{Standing}
 use Rattle.session.specs.declared.progress.Progress.{Progress}
 use Rattle.session.proofs.Theorems.{starts}
-use Rattle.survey.specs.Chunks.{Chunks, Reached, Took, goesOn, next, none}
+use Rattle.survey.specs.Chunks.{Chunks, Reached, Took, able, bytesRead, goesOn, next, none}
 
 -- the turns that are left after k chunks
 abbrev leftAfter : Bool → ℕ → ℕ
@@ -45,28 +45,21 @@ fewer-left true h e = omega (arith, e)
 fewer-left false h e = omega (arith, e)
 
 -- one more chunk
-module _ (able more : Bool) {w v : Standing} {was : Bool} {count turns left : ℕ} {buf entry exit : List ℕ}
-    (r : Reading w was turns) (h : 0 < turns) (t : Took w v count buf entry exit)
-    (goes : more ≡ goesOn able count (v .lines)) (falls : left ≡ cond more (turns - 1) 0) where
-  abbrev bytes : List ℕ
-  bytes = take count buf
-
+module _ (got : ℤ) (isWritten more : Bool) {w v : Standing} {was : Bool} {turns left : ℕ} {buf entry exit : List ℕ}
+    (r : Reading w was turns) (h : 0 < turns) (t : Took w v got buf entry exit)
+    (goes : more ≡ goesOn got isWritten (v .lines)) (falls : left ≡ cond more (turns - 1) 0) where
   abbrev all : List (List ℕ)
-  all = r .chunks ++ (bytes ∷ [])
+  all = r .chunks ++ (bytesRead got buf ∷ [])
 
-  size : length bytes ≡ count
-  size = length-take count buf ∙ min-eq-left (t .within)
+  reads-next : Chunks (r .chunks) w was true → Chunks all v (able got isWritten) more
+  reads-next reads = rw (goes, t .after) (next got isWritten buf reads)
 
-  reads-next : Chunks (r .chunks) w was true → Chunks all v able more
-  reads-next reads =
-      rw (goes, t .after) (subst (λ (n : ℕ). Chunks all (afterBytes w bytes) able (goesOn able n (afterBytes w bytes .lines))) size (next bytes able reads))
-
-  pub reads-on : Reading v able left
+  pub reads-on : Reading v (able got isWritten) left
   reads-on = go (r .more) (r .reads) (r .left)
     where
-      go : (b : Bool) → Chunks (r .chunks) w was b → turns ≡ leftAfter b (length (r .chunks)) → Reading v able left
+      go : (b : Bool) → Chunks (r .chunks) w was b → turns ≡ leftAfter b (length (r .chunks)) → Reading v (able got isWritten) left
       go true reads was-left =
-          let one = length-append (r .chunks) (bytes ∷ []) in
+          let one = length-append (r .chunks) (bytesRead got buf ∷ []) in
           let fewer : turns - 1 ≡ 18446744073709551615 - length all = omega (arith, was-left, one) in
           record {
             chunks = all;

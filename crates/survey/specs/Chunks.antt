@@ -1,45 +1,50 @@
 -- 01, "The job program": a job chunk by chunk, for whatever the system reads. What it reads and writes no contract can say.
-use Prim.Native.Nat.{ℕ, _≤_, _<_, _+_, _^_}
-use mathlib.Core.Bool.{Bool, cond, not, true, false, _&&_}
+use Prim.Native.Nat.{ℕ, _+_, _^_}
+use mathlib.Core.Bool.{Bool, cond, false, true, _&&_}
 use mathlib.Core.List.{List, [], _∷_, _++_}
 use mathlib.Core.Logic.{_⊎_}
 use mathlib.Core.Path.{_≡_}
-use lib.Dec.{eqb, ltb}
-use lib.IntN.{ℤ}
+use lib.Dec.{ltb}
+use lib.IntN.{ℤ, pos}
 use lib.ListN.{length, take}
+use lib.Signed.{leZ, ltZ}
 use Rattle.io.specs.Counts.{clamped}
 use Rattle.machine.specs.Registers.{million}
 use Rattle.machine.specs.Step.{written}
 use Rattle.session.specs.Standings.{Standing, afterBytes, afterLast, begun, printedBy, printedLast}
 
--- the bytes of a read that answered `got`, at the start of the buffer: none at the end of input, and none where it failed
+-- the bytes of a read that answered `got`: so many at the buffer's start, none at the end of input (0), none where it failed (-1)
 abbrev pub bytesRead : ℤ → List ℕ → List ℕ
 bytesRead got buf = take (clamped got (length buf)) buf
 
--- a chunk of so many bytes at the start of the buffer: where it leaves the job, and what it prints at the start of the output
-pub record Took (w v : Standing) (count : ℕ) (buf entry exit : List ℕ) : Type 0 where
-  pub within : count ≤ length buf
-  pub after : v ≡ afterBytes w (take count buf)
-  pub prints : exit ≡ written 0 (printedBy w (take count buf)) entry
+-- the chunk of such a read: where it leaves the job, and what it prints at the start of the output
+pub record Took (w v : Standing) (got : ℤ) (buf entry exit : List ℕ) : Type 0 where
+  pub after : v ≡ afterBytes w (bytesRead got buf)
+  pub prints : exit ≡ written 0 (printedBy w (bytesRead got buf)) entry
 
--- another chunk is read behind one that has bytes; "Reading stops after line 1,000,000", and where the system fails
-abbrev pub goesOn : (able : Bool) (count lines : ℕ) → Bool
-goesOn able count lines = able && (not (eqb count 0) && ltb lines million)
+-- whether the system could read a chunk and write what it prints
+abbrev pub able : (got : ℤ) (isWritten : Bool) → Bool
+able got isWritten = leZ (pos 0) got && isWritten
 
--- chunk after chunk from the start: where they leave the job, whether the system could read and write the last, and whether there is another
+-- another chunk is read behind one that brought bytes; "Reading stops after line 1,000,000", and where a write fails
+abbrev pub goesOn : (got : ℤ) (isWritten : Bool) (lines : ℕ) → Bool
+goesOn got isWritten lines = isWritten && (ltZ (pos 0) got && ltb lines million)
+
+-- chunk after chunk from the start: where they leave the job, whether the system was able to the last, and whether there is another
 pub data Chunks : List (List ℕ) → Standing → (able more : Bool) → Type 0 where
   none : Chunks [] begun true true
-  next : {cs : List (List ℕ)} {w : Standing} {was : Bool} (bytes : List ℕ) (able : Bool) → Chunks cs w was true
-      → Chunks (cs ++ (bytes ∷ [])) (afterBytes w bytes) able (goesOn able (length bytes) (afterBytes w bytes .lines))
+  next : {cs : List (List ℕ)} {w : Standing} {was : Bool} (got : ℤ) (isWritten : Bool) (buf : List ℕ) → Chunks cs w was true
+      → Chunks (cs ++ (bytesRead got buf ∷ [])) (afterBytes w (bytesRead got buf)) (able got isWritten)
+      (goesOn got isWritten (afterBytes w (bytesRead got buf) .lines))
 
--- all chunks: after the last there is no other, or so many were read as the loop counts
+-- all chunks: behind the last there is no other, or so many were read as the loop counts
 pub record Reached (v : Standing) (able : Bool) : Type 0 where
   pub chunks : List (List ℕ)
   pub more : Bool
   pub reads : Chunks chunks v able more
   pub ended : (more ≡ false) ⊎ (length chunks + 1 ≡ 2 ^ 64)
 
--- the end of input: a line that it ends is taken only where all that stands before it could be read and written
+-- the end of input: a line that it ends is taken only where all before it could be read and written
 abbrev pub afterInput : Bool → Standing → Standing
 afterInput able w = cond able (afterLast w) w
 

@@ -9,18 +9,19 @@ ghost use Rattle.gate.specs.Lent.{atEntry, atExit};
 ghost use Rattle.machine.specs.Step.{written};
 ghost use Rattle.session.specs.Kept.{DealerFits, Grown, MasksFit, RecordFits, emptyWords, entering, leaving, noLines};
 ghost use Rattle.session.specs.Outputs.{zeroWords};
-ghost use Rattle.survey.specs.Chunks.{Reached, Took, afterInput, printedAfter};
+ghost use Rattle.survey.specs.Chunks.{Reached, Took, able, afterInput, printedAfter};
+use chunks::able;
 use chunks::goes_on;
 use chunks::take_read;
 use libc::STDIN_FILENO;
 use session::Progress;
 use session::finish;
 
-// Where a chunk leaves the job, how many bytes were read, and whether the system could read them and write what they print.
+// Where a chunk leaves the job, what its read answered, and whether what it prints was written.
 struct Turn {
     progress: Progress,
-    count: usize,
-    able: bool,
+    got: isize,
+    is_written: bool,
 }
 
 // Writes what was printed.
@@ -46,22 +47,22 @@ fn take_chunk(
     requires masks { ⌜ MasksFit (p .counts) (now m0) (now m1) (now m2) ⌝ }
     requires dealer { ⌜ DealerFits (p .counts) (now dealer) ⌝ }
     requires room { ⌜ 105 * length (now buf) ≤ length (now out) ⌝ }
-    ensures took { λ r. ⌜ Took (entering p «record» m0 m1 m2 dealer c0 c1 c2) (leaving (r .progress) «record» m0 m1 m2 dealer c0 c1 c2) (r .count) (now (buf .exit)) (now (out .entry)) (now (out .exit)) ⌝ }
+    ensures took { λ r. ⌜ Took (entering p «record» m0 m1 m2 dealer c0 c1 c2) (leaving (r .progress) «record» m0 m1 m2 dealer c0 c1 c2) (r .got) (now (buf .exit)) (now (out .entry)) (now (out .exit)) ⌝ }
     ensures machine { λ r. ⌜ RecordFits (now («record» .exit)) ⌝ }
     ensures masks { λ r. ⌜ MasksFit (r .progress .counts) (now (m0 .exit)) (now (m1 .exit)) (now (m2 .exit)) ⌝ }
     ensures dealer { λ r. ⌜ DealerFits (r .progress .counts) (now (dealer .exit)) ⌝ }
     ensures rest { λ r. ⌜ Grown (p .counts) (r .progress .counts) (atEntry m0 m1 m2) (atExit m0 m1 m2) (now (dealer .entry)) (now (dealer .exit)) ⌝ }
 {
     let got = libc::read(STDIN_FILENO, buf);
-    let is_read = streams::is_read(b"survey: standard input", got);
-    let chunk = take_read(p, got, buf, record, m0, m1, m2, dealer, c0, c1, c2, out);
-    let progress = chunk.progress;
-    let at = chunk.at;
+    streams::tell_unread(b"survey: standard input", got);
+    let printed = take_read(p, got, buf, record, m0, m1, m2, dealer, c0, c1, c2, out);
+    let progress = printed.progress;
+    let at = printed.at;
     let is_written = write_out(&out[0..at]);
     Turn {
         progress,
-        count: chunk.count,
-        able: is_read & is_written,
+        got,
+        is_written,
     }
 }
 
@@ -91,7 +92,7 @@ fn take_input(
     requires dealer { ⌜ DealerFits noLines (now dealer) ⌝ }
     requires channels { ⌜ ((now c0 ≡ zeroWords) × ((now c1 ≡ zeroWords) × (now c2 ≡ zeroWords))) ⌝ }
     requires room { ⌜ 105 * length (now buf) ≤ length (now out) ⌝ }
-    ensures reached { λ r. ⌜ Reached (leaving (r .progress) «record» m0 m1 m2 dealer c0 c1 c2) (r .able) ⌝ }
+    ensures reached { λ r. ⌜ Reached (leaving (r .progress) «record» m0 m1 m2 dealer c0 c1 c2) (able (r .got) (r .«is_written»)) ⌝ }
     ensures machine { λ r. ⌜ RecordFits (now («record» .exit)) ⌝ }
     ensures masks { λ r. ⌜ MasksFit (r .progress .counts) (now (m0 .exit)) (now (m1 .exit)) (now (m2 .exit)) ⌝ }
     ensures dealer { λ r. ⌜ DealerFits (r .progress .counts) (now (dealer .exit)) ⌝ }
@@ -99,15 +100,15 @@ fn take_input(
 {
     let mut turn = Turn {
         progress: Progress::start(),
-        count: 0,
-        able: true,
+        got: 0,
+        is_written: true,
     };
     let mut turns = u64::MAX;
     while 0 < turns {
         let p = turn.progress;
         turn = take_chunk(p, buf, record, m0, m1, m2, dealer, c0, c1, c2, out);
         let left = turn.progress;
-        turns = fewer(turns, goes_on(turn.able, turn.count, left.lines));
+        turns = fewer(turns, goes_on(turn.got, turn.is_written, left.lines));
     }
     turn
 }
@@ -169,7 +170,7 @@ fn main() {
     let p = last.progress;
     end_input(
         p,
-        last.able,
+        able(last.got, last.is_written),
         &mut record,
         &mut m0,
         &mut m1,

@@ -21,7 +21,7 @@ sizes c κs = (
 
 ends : tie.Need-end-input-requires
 ends c κs =
-    let given = c .before .before .before .before .before .before .before .before .before .before in
+    let given = c .before .before .before .before .before .before .before .before .before .before .before .before in
     let told = given .before .before .before .before .before .before .before .before .before .before .take-input .ensures in
     (told .1 .0, (told .1 .1 .0, (told .1 .1 .1 .0, omega (arith, given .out2 .given, zeros 262080))))
 
@@ -30,6 +30,6 @@ main-spec =
     tie.close
     (tie.spec
     (λ c. search needs) (λ c. search needs) (λ c. search needs) (λ c. search needs) (λ c. search needs)
-    (λ c. search needs) (λ c. search needs) (λ c. search needs) (λ c. search needs) (λ c. search needs) sizes
+    (λ c. search needs) (λ c. search needs) (λ c. search needs) (λ c. search needs) (λ c. search needs) sizes (λ c κs. search needs)
     (λ c. search needs) (λ c. search needs) (λ c. search needs) (λ c. search needs) (λ c. search needs)
     (λ c. search needs) (λ c. search needs) (λ c. search needs) (λ c. search needs) ends (λ c. search needs))

@@ -4,7 +4,10 @@ use mathlib.Core.List.{List}
 use mathlib.Core.Path.{_≡_, ap, refl, sym, _∙_}
 use native.Mathlib.Omega.{arith}
 use borrow.Author.Needs.{needs}
+use lib.IntN.{ℤ}
 use lib.ListN.{length, length-replicate}
+use mir.Facts.{toZ-ofZ}
+use mir.Syntax.{w64}
 use Rattle.gate.specs.Places.{three}
 use Rattle.layout.proofs.SaysLaw.{says-length}
 use Rattle.session.specs.Kept.{DealerFits, Grown, MasksFit, RecordFits, noLines, standingOf}
@@ -12,13 +15,14 @@ use Rattle.session.specs.Standings.{Standing}
 use Rattle.session.specs.declared.progress.Progress.{Progress}
 use Rattle.session.proofs.GrownLaw.{counts-same, grown-on}
 use Rattle.session.proofs.RecordLaw.{empty-fits}
+use Rattle.survey.specs.Chunks.{able, goesOn}
 use Rattle.survey.proofs.LoopLaw.{Reading, begins, ended, fewer-left, reads-on}
 use Rattle.survey.proofs.take_input.Statement.{statement}
 use Rattle.survey.proofs.take_input.Tie as tie
 
 abbrev Inv-loop : tie.InvT-loop
 Inv-loop buf₀ ws₀ m0₀ m1₀ m2₀ dealer₀ c0₀ c1₀ c2₀ out₀ turn₀ turns₀ buf ws m0 m1 m2 dealer c0 c1 c2 out turn turns =
-    Reading (standingOf (turn .progress) ws m0 m1 m2 dealer (three c0 c1 c2)) (turn .able) turns
+    Reading (standingOf (turn .progress) ws m0 m1 m2 dealer (three c0 c1 c2)) (able (turn .got) (turn .«is_written»)) turns
     × (RecordFits ws
     × (MasksFit (turn .progress .counts) m0 m1 m2
     × (DealerFits (turn .progress .counts) dealer
@@ -58,7 +62,7 @@ left : (c : tie.In-loop Inv-loop μ-loop) → 0 < c .before .loop .turns
 left c = omega arith
 
 less : tie.Need-loop-less Inv-loop μ-loop
-less c = fewer-left (c .before .goes-on .result) (left (entered (called (c .before .before) .before))) (c .fewer .ensures)
+less c = fewer-left (c .before .goes-on .result) (left (entered (called (c .before .before .before) .before))) (c .fewer .ensures)
 
 -- where the chunk leaves the job
 abbrev leaves : tie.After-take-chunk Inv-loop μ-loop → Standing
@@ -71,16 +75,17 @@ leaves chunk =
 
 again : tie.Need-loop-again Inv-loop μ-loop
 again c =
-    let lent = c .before .before in
+    let lent = c .before .before .before in
     let c2 = lent .before .before .before .before in
     let c1 = c2 .before .before in
     let c0 = c1 .before .before in
     let chunk = called lent in
+    let back = toZ-ofZ {w = w64} {z = chunk .take-chunk .result .got} (record { sfits = c .before .before .struct-told .given .1 .0 .1 }) in
     let at = entered (chunk .before) in
     let inv = at .before .loop .inv in
     let room = inv .1 .1 .1 .1 .1 in
     let told = chunk .take-chunk .ensures in (
-      reads-on (chunk .take-chunk .result .able) (c .before .goes-on .result) {v = leaves chunk} (inv .0) (left at) (told .0) (c .before .goes-on .ensures) (c .fewer .ensures),
+      reads-on (chunk .take-chunk .result .got) (chunk .take-chunk .result .«is_written») (c .before .goes-on .result) {v = leaves chunk} (inv .0) (left at) (told .0) (c .before .goes-on .ensures ∙ ap (λ (z : ℤ). goesOn z (chunk .take-chunk .result .«is_written») (leaves chunk .lines)) back) (c .fewer .ensures),
       (told .1 .0, (told .1 .1 .0, (told .1 .1 .1 .0, (grown-on (inv .1 .1 .1 .1 .0) (told .1 .1 .1 .1), (omega (arith, room .0), (omega (arith, room .1 .0), (omega (arith, room .1 .1 .0, c0 .c0 .given), (omega (arith, room .1 .1 .1 .0, c1 .c1 .given), omega (arith, room .1 .1 .1 .1, c2 .c2 .given))))))))),
     )
 
@@ -99,6 +104,6 @@ pub take-input-spec : {M : Type 1} → statement M
 take-input-spec =
     tie.close
     (tie.spec Inv-loop μ-loop
-    (λ c κs. search needs) first takes (λ c κs. search needs) (λ c κs. left (entered (called (c .before) .before))) less again
+    (λ c κs. search needs) first takes (λ c κs. search needs) (λ c κs. left (entered (called (c .before .before) .before))) less again
     (λ c. omega arith) same-record (λ c. omega arith) (λ c. omega arith) (λ c. omega arith)
     (λ c. omega arith) (λ c. omega arith) (λ c. omega arith) (λ c. omega arith) (λ c. omega arith) done)

@@ -27,8 +27,8 @@ feeds c κs =
     let a = start n in
     (a .pre .0, (a .pre .1 .0, (a .pre .1 .1 .0, first-room (n .count .result - 0) (a .args .buf .now) (a .pre .1 .1 .1))))
 
-abbrev fed : tie.After-progress → tie.After-feed
-fed c = c .before .before .before .before .before .before .before .before .before .before .before .before .before .before .before .before .before .before .before
+abbrev fed : tie.After-slice-known18 → tie.After-feed
+fed c = c .before .before .before .before .before .before .before .before .before .before .before .before .before .before .before .before .before .before
 
 done : tie.Need-returns
 done c =
@@ -38,7 +38,7 @@ done c =
     let told = fed c .feed .ensures in
     let before = standingOf (a .p) (a .«record» .now) (a .m0 .now) (a .m1 .now) (a .m2 .now) (a .dealer .now) (three {A = List ℕ} (a .c0 .now) (a .c1 .now) (a .c2 .now)) in
     let are = first-bytes (a .buf .now) count in
-    (count, (told .0 ∙ ap (afterBytes before) are, (wrote-same (ap (printedBy before) (sym are)) (told .1 .0), told .1 .1)))
+    (told .0 ∙ ap (afterBytes before) are, (wrote-same (ap (printedBy before) (sym are)) (told .1 .0), told .1 .1))
 
 pub take-read-spec : {M : Type 1} → statement M
 take-read-spec =

@@ -1,0 +1,49 @@
+-- What the program prints (specs/Theorems.antt).
+use Prim.Native.Nat.{ℕ, zero, suc, _≤_}
+use mathlib.Core.Bool.{Bool, false, true}
+use mathlib.Core.List.{List, [], _∷_, _++_, append-assoc, append-nil, flatten}
+use mathlib.Core.Logic.{_⊎_, inl, inr}
+use mathlib.Core.Path.{_≡_, ap, refl, subst, sym, _∙_}
+use native.Mathlib.Omega.{arith}
+use borrow.Author.Tests.{lt-ltb, ltb-false}
+use lib.IntN.{ℤ, negsuc, pos}
+use Rattle.machine.specs.Registers.{million}
+use Rattle.session.specs.Outputs.{output}
+use Rattle.session.specs.Standings.{Standing, afterBytes, begun, printedFor}
+use Rattle.session.proofs.Theorems.{in-chunks, whole}
+use Rattle.survey.specs.Chunks.{Chunks, able, bytesRead, goesOn, next, none}
+use Rattle.survey.specs.Theorems as theorem
+
+flatten-last : (chunks : List (List ℕ)) (last : List ℕ) → flatten (chunks ++ (last ∷ [])) ≡ flatten chunks ++ last
+unfolding flatten
+flatten-last [] last = append-nil last
+flatten-last (c ∷ cs) last = rw (flatten-last cs last, append-assoc) refl
+
+-- where the bytes of chunks leave a job
+after-last : (chunks : List (List ℕ)) (last : List ℕ) {w : Standing} → w ≡ afterBytes begun (flatten chunks)
+    → afterBytes w last ≡ afterBytes begun (flatten (chunks ++ (last ∷ [])))
+after-last chunks last e =
+    ap (λ (v : Standing). afterBytes v last) e ∙ sym (in-chunks begun (flatten chunks) last .1) ∙ ap (afterBytes begun) (sym (flatten-last chunks last))
+
+after-chunks : {chunks : List (List ℕ)} {w : Standing} {able more : Bool} → Chunks chunks w able more → w ≡ afterBytes begun (flatten chunks)
+unfolding flatten afterBytes
+after-chunks none = refl
+after-chunks (next {cs = cs} got isWritten buf reads) = after-last cs (bytesRead got buf) (after-chunks reads)
+
+-- no other chunk behind one that could be read: its read answered 0, or line 1,000,000 has ended
+last-read : (got : ℤ) (lines : ℕ) → able got true ≡ true → goesOn got true lines ≡ false → (got ≡ pos 0) ⊎ (million ≤ lines)
+last-read (pos zero) lines fine over = inl refl
+last-read (pos (suc n)) lines fine over = inr (ltb-false lines million (rw (lt-ltb 0 (suc n) (omega arith)) at over))
+last-read (negsuc n) lines fine over = let never : _≡_ {A = ℕ} 0 1 = cc (fine) in absurd (omega arith)
+
+pub prints : theorem.Prints
+prints chunks w was got buf rest reads fine over ends = go (last-read got (afterBytes w last .lines) fine over)
+  where
+    last : List ℕ
+    last = bytesRead got buf
+
+    go : (got ≡ pos 0) ⊎ (million ≤ afterBytes w last .lines) → printedFor begun (chunks ++ (last ∷ [])) ≡ output (flatten (chunks ++ (last ∷ [])) ++ rest)
+    go (inl e) = whole (chunks ++ (last ∷ [])) rest (inl (ends e))
+    go (inr late) =
+        whole (chunks ++ (last ∷ [])) rest
+        (inr (subst (λ (v : Standing). million ≤ v .lines) (after-last chunks last (after-chunks reads)) late))
