@@ -1,4 +1,5 @@
 -- What the gates of a task are lent: enough items and words, and items in range.
+-- Used by the code's contracts alone: no theorem's statement speaks of it.
 use Prim.Native.Nat.{ℕ, _+_}
 use mathlib.Core.List.{List}
 use lib.ListN.{drop}

@@ -1,5 +1,5 @@
 -- How the tapes that party U does not see are changed, order by order: the items that K takes are those which bring U the same words and
--- the same dealt pairs as J's bring it.
+-- the same dealt pairs as J's bring it. Used by the proof of demand 3 alone: its statement speaks of no such items.
 use Prim.Native.Nat.{ℕ}
 use mathlib.Core.List.{List, [], _∷_, _++_}
 use mathlib.Core.Path.{_≡_}

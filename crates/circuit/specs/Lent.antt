@@ -1,4 +1,5 @@
 -- What gates leave on lent runs of words: "the words are written from the wire position on, one a wire .. and all else there stays".
+-- Used by the code's contracts alone: no theorem's statement speaks of it.
 use Prim.Native.Nat.{ℕ, _<_, _≤_}
 use mathlib.Core.List.{List, _++_}
 use mathlib.Core.Path.{_≡_}

@@ -1,4 +1,5 @@
 -- 01, order 6, on lent runs: the carry's gate, and the two bits of q as one word a place.
+-- Used by the code's contracts alone: no theorem's statement speaks of it.
 use Prim.Native.Nat.{ℕ, _+_, _*_}
 use mathlib.Core.List.{List, [], _∷_}
 use mathlib.Core.Path.{_≡_}

@@ -1,4 +1,5 @@
 -- 01, order 8, on lent runs: the sums that gates leave, whatever else the places keep.
+-- Used by the code's contracts alone: no theorem's statement speaks of it.
 use Prim.Native.Nat.{ℕ, _+_, _*_, _%_}
 use mathlib.Core.List.{List, [], _∷_, _++_}
 use mathlib.Core.Path.{_≡_}

@@ -1,4 +1,5 @@
 -- 01, order 5: what the three places keep, as sharings of words.
+-- Used by the code's contracts alone: no theorem's statement speaks of it.
 use Prim.Native.Nat.{ℕ, _+_, _*_, _/_, _%_, _^_}
 use lib.Bits.{bitXor}
 use Rattle.ring.specs.Rings.{bitOf}

@@ -1,4 +1,5 @@
 -- 01, "Why an order is refused": the checks of orders 1 and 9 over numbers and lengths alone, and what a deal leaves.
+-- Used by the code's contracts alone: no theorem's statement speaks of it.
 use Prim.Native.Nat.{ℕ, _+_}
 use mathlib.Core.Bool.{Bool, _||_}
 use mathlib.Core.List.{List, [], _∷_, _++_}

@@ -1,4 +1,5 @@
 -- Three runs that are lent to a call, one a place: what they hold at its entry and at its exit.
+-- Used by the code's contracts alone: no theorem's statement speaks of it.
 use Prim.Native.Nat.{ℕ}
 use mathlib.Core.List.{List}
 use denote.Ref.{RefT}

@@ -1,4 +1,5 @@
 -- Orders 2 to 8 in two parts: what the record alone decides, and what lengths, items and gates do.
+-- Used by the code's contracts alone: no theorem's statement speaks of it.
 use Prim.Native.Nat.{ℕ}
 use mathlib.Core.Bool.{Bool, cond, not}
 use mathlib.Core.List.{List, [], _∷_, _++_}

@@ -1,4 +1,5 @@
 -- 01, "The nine orders": what an order does to the record and answers, apart from the record.
+-- Used by the code's contracts alone: no theorem's statement speaks of it.
 use Prim.Native.Nat.{ℕ, _≤_}
 use mathlib.Core.List.{List}
 use mathlib.Core.Path.{_≡_}

@@ -1,4 +1,5 @@
 -- 01, "The nine orders": orders 2 to 8 once their sources are found.
+-- Used by the code's contracts alone: no theorem's statement speaks of it.
 use Prim.Native.Nat.{ℕ, _+_, _*_, _-_, _%_, _≤_, _<_}
 use Rattle.ring.specs.Rings.{modulusOf, widthOf}
 use Rattle.ring.specs.declared.rings.Ring.{Ring}

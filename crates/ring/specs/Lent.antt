@@ -1,4 +1,5 @@
 -- Runs that are lent to a call, at its entry and at its exit.
+-- Used by the code's contracts alone: no theorem's statement speaks of it.
 use Prim.Native.Nat.{ℕ}
 use mathlib.Core.List.{List}
 use mathlib.Core.Path.{_≡_}

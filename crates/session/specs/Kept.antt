@@ -1,4 +1,4 @@
--- What the code keeps by value and is lent, as the definitions' state.
+-- What the code keeps by value and is lent, as the definitions' state. Used by the code's contracts, and by the theorem `Starts`.
 use Prim.Native.Nat.{ℕ, _≤_}
 use mathlib.Core.Bool.{true}
 use mathlib.Core.List.{List}

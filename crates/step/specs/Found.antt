@@ -1,4 +1,5 @@
 -- 01, "The nine orders": what an order reads of the record.
+-- Used by the code's contracts alone: no theorem's statement speaks of it.
 use Prim.Native.Nat.{ℕ}
 use Rattle.machine.specs.Registers.{registerAt, sound}
 use Rattle.machine.specs.declared.orders.Order.{Order}

@@ -1,4 +1,5 @@
 -- The four tapes that are lent to a step: three mask tapes and the dealer's tape.
+-- Used by the code's contracts alone: no theorem's statement speaks of it.
 use Prim.Native.Nat.{ℕ}
 use mathlib.Core.List.{List}
 use denote.Ref.{RefT}

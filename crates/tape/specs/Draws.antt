@@ -1,4 +1,5 @@
 -- What the inner functions promise, said by the definition of a filling.
+-- Used by the code's contracts alone: no theorem's statement speaks of it.
 use Prim.Native.Nat.{ℕ, suc}
 use mathlib.Core.Path.{_≡_}
 use mathlib.Core.Bool.{Bool, true, false}
