@@ -94,7 +94,9 @@ fn take_one(
     requires dealer { ⌜ DealerFits (p .counts) (now dealer) ⌝ }
     requires inside { ⌜ i < length (now buf) ⌝ }
     requires room { ⌜ at + 105 ≤ length (now out) ⌝ }
-    ensures is { λ r. ⌜ Advanced (entering p «record» m0 m1 m2 dealer c0 c1 c2) (drop i (now (buf .entry))) (leaving (r .progress) «record» m0 m1 m2 dealer c0 c1 c2) (drop (r .next) (now (buf .entry))) at (now (out .entry)) (now (out .exit)) (r .at) ⌝ }
+    ensures is { λ r. ⌜ Advanced (entering p «record» m0 m1 m2 dealer c0 c1 c2) (drop i (now (buf .entry)))
+        (leaving (r .progress) «record» m0 m1 m2 dealer c0 c1 c2) (drop (r .next) (now (buf .entry)))
+        at (now (out .entry)) (now (out .exit)) (r .at) ⌝ }
     ensures further { λ r. ⌜ i < r .next ⌝ }
     ensures within { λ r. ⌜ r .next ≤ length (now (buf .entry)) ⌝ }
     ensures short { λ r. ⌜ r .at + 105 * i ≤ at + 105 * r .next ⌝ }
@@ -147,8 +149,10 @@ pub fn feed(
     requires masks { ⌜ MasksFit (p .counts) (now m0) (now m1) (now m2) ⌝ }
     requires dealer { ⌜ DealerFits (p .counts) (now dealer) ⌝ }
     requires room { ⌜ 105 * length (now buf) ≤ length (now out) ⌝ }
-    ensures is { λ r. ⌜ leaving (r .progress) «record» m0 m1 m2 dealer c0 c1 c2 ≡ afterBytes (entering p «record» m0 m1 m2 dealer c0 c1 c2) (now (buf .entry)) ⌝ }
-    ensures writes { λ r. ⌜ Wrote 0 (printedBy (entering p «record» m0 m1 m2 dealer c0 c1 c2) (now (buf .entry))) (now (out .entry)) (now (out .exit)) (r .at) ⌝ }
+    ensures is { λ r. ⌜ leaving (r .progress) «record» m0 m1 m2 dealer c0 c1 c2
+        ≡ afterBytes (entering p «record» m0 m1 m2 dealer c0 c1 c2) (now (buf .entry)) ⌝ }
+    ensures writes { λ r. ⌜ Wrote 0 (printedBy (entering p «record» m0 m1 m2 dealer c0 c1 c2) (now (buf .entry)))
+        (now (out .entry)) (now (out .exit)) (r .at) ⌝ }
     ensures within { λ r. ⌜ r .at ≤ length (now (out .exit)) ⌝ }
     ensures machine { λ r. ⌜ RecordFits (now («record» .exit)) ⌝ }
     ensures masks { λ r. ⌜ MasksFit (r .progress .counts) (now (m0 .exit)) (now (m1 .exit)) (now (m2 .exit)) ⌝ }

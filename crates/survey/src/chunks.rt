@@ -31,8 +31,10 @@ pub fn take_read(
     requires masks { ⌜ MasksFit (p .counts) (now m0) (now m1) (now m2) ⌝ }
     requires dealer { ⌜ DealerFits (p .counts) (now dealer) ⌝ }
     requires room { ⌜ 105 * length (now buf) ≤ length (now out) ⌝ }
-    ensures is { λ r. ⌜ leaving (r .progress) «record» m0 m1 m2 dealer c0 c1 c2 ≡ afterBytes (entering p «record» m0 m1 m2 dealer c0 c1 c2) (bytesRead got (now (buf .entry))) ⌝ }
-    ensures writes { λ r. ⌜ Wrote 0 (printedBy (entering p «record» m0 m1 m2 dealer c0 c1 c2) (bytesRead got (now (buf .entry)))) (now (out .entry)) (now (out .exit)) (r .at) ⌝ }
+    ensures is { λ r. ⌜ leaving (r .progress) «record» m0 m1 m2 dealer c0 c1 c2
+        ≡ afterBytes (entering p «record» m0 m1 m2 dealer c0 c1 c2) (bytesRead got (now (buf .entry))) ⌝ }
+    ensures writes { λ r. ⌜ Wrote 0 (printedBy (entering p «record» m0 m1 m2 dealer c0 c1 c2) (bytesRead got (now (buf .entry))))
+        (now (out .entry)) (now (out .exit)) (r .at) ⌝ }
     ensures within { λ r. ⌜ r .at ≤ length (now (out .exit)) ⌝ }
     ensures machine { λ r. ⌜ RecordFits (now («record» .exit)) ⌝ }
     ensures masks { λ r. ⌜ MasksFit (r .progress .counts) (now (m0 .exit)) (now (m1 .exit)) (now (m2 .exit)) ⌝ }

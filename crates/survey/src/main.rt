@@ -47,7 +47,8 @@ fn take_chunk(
     requires masks { ⌜ MasksFit (p .counts) (now m0) (now m1) (now m2) ⌝ }
     requires dealer { ⌜ DealerFits (p .counts) (now dealer) ⌝ }
     requires room { ⌜ 105 * length (now buf) ≤ length (now out) ⌝ }
-    ensures took { λ r. ⌜ Took (entering p «record» m0 m1 m2 dealer c0 c1 c2) (leaving (r .progress) «record» m0 m1 m2 dealer c0 c1 c2) (r .got) (now (buf .exit)) (now (out .entry)) (now (out .exit)) ⌝ }
+    ensures took { λ r. ⌜ Took (entering p «record» m0 m1 m2 dealer c0 c1 c2) (leaving (r .progress) «record» m0 m1 m2 dealer c0 c1 c2)
+        (r .got) (now (buf .exit)) (now (out .entry)) (now (out .exit)) ⌝ }
     ensures machine { λ r. ⌜ RecordFits (now («record» .exit)) ⌝ }
     ensures masks { λ r. ⌜ MasksFit (r .progress .counts) (now (m0 .exit)) (now (m1 .exit)) (now (m2 .exit)) ⌝ }
     ensures dealer { λ r. ⌜ DealerFits (r .progress .counts) (now (dealer .exit)) ⌝ }
