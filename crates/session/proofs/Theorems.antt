@@ -1,8 +1,7 @@
 -- The facts about what jobs print (specs/Theorems.antt).
 use Prim.Native.Nat.{ℕ, suc, _≤_}
 use mathlib.Core.List.{List, [], _∷_, _++_, append-assoc, append-nil, flatten}
-use mathlib.Core.Logic.{inl, inr}
-use mathlib.Core.Path.{_≡_, ap, refl, sym, _∙_}
+use mathlib.Core.Path.{_≡_, ap, refl, _∙_}
 use native.Mathlib.Omega.{arith}
 use lib.Dec.{eqb}
 use lib.ListN.{length}
@@ -72,8 +71,10 @@ rest-unread bytes rest late =
     rw (← output-printed (bytes ++ rest), cut .0, cut .1, stops v late rest .0, stops v late rest .1, stops v late [] .1, none, none) refl
 
 pub whole : theorem.Whole
-whole chunks rest (inl e) = in-all begun chunks ∙ output-printed (flatten chunks) ∙ sym (ap output (rw (e, append-nil) refl))
-whole chunks rest (inr late) = in-all begun chunks ∙ rest-unread (flatten chunks) rest late
+whole chunks = (
+  in-all begun chunks ∙ output-printed (flatten chunks),
+  λ rest late. in-all begun chunks ∙ rest-unread (flatten chunks) rest late,
+)
 
 pub starts : theorem.Starts
 unfolding started

@@ -1,7 +1,6 @@
 -- Facts about what whole jobs print, for all bytes of input. Proofs: proofs/Theorems.antt.
 use Prim.Native.Nat.{ℕ, _+_, _≤_}
 use mathlib.Core.List.{List, [], _∷_, _++_, flatten}
-use mathlib.Core.Logic.{_⊎_}
 use mathlib.Core.Path.{_≡_}
 use lib.ListN.{length, replicate}
 use Rattle.gate.specs.Places.{p0, three}
@@ -25,9 +24,9 @@ InChunks = (w : Standing) (xs ys : List ℕ)
 
 -- A whole job in chunks: together they print the output of all its bytes. After line 1,000,000 the rest need not be read.
 abbrev pub Whole : Type 0
-Whole = (chunks : List (List ℕ)) (rest : List ℕ)
-    → (rest ≡ []) ⊎ (million ≤ afterBytes begun (flatten chunks) .lines)
-    → printedFor begun chunks ≡ output (flatten chunks ++ rest)
+Whole = (chunks : List (List ℕ))
+    → (printedFor begun chunks ≡ output (flatten chunks))
+    × ((rest : List ℕ) → million ≤ afterBytes begun (flatten chunks) .lines → printedFor begun chunks ≡ output (flatten chunks ++ rest))
 
 -- "Reading stops after line 1,000,000": what follows prints nothing
 abbrev pub Stops : Type 0

@@ -4,12 +4,13 @@ use mathlib.Core.Bool.{Bool, false, true}
 use mathlib.Core.List.{List}
 use mathlib.Core.Path.{_≡_, refl}
 use native.Mathlib.Omega.{arith}
+use lib.IntN.{ℤ}
 use lib.ListN.{length, length-take, take}
 use Rattle.line.specs.Printed.{Wrote}
 use Rattle.machine.specs.Step.{written}
 use Rattle.session.specs.Standings.{Standing, afterLast, printedLast}
 use Rattle.session.proofs.ReplyLaw.{wrote-none}
-use Rattle.survey.specs.Chunks.{afterInput, printedAfter}
+use Rattle.survey.specs.Chunks.{Ran, Reached, able, afterInput, printedAfter}
 
 -- the first n bytes of a buffer, as a part of it
 pub first-bytes : {n k : ℕ} (buf : List ℕ) → n ≡ k → take (n - 0) buf ≡ take k buf
@@ -29,3 +30,9 @@ ends able w e after wrote = rw e (after, wrote .run)
 
 pub ends-there : (able : Bool) (w : Standing) (out : List ℕ) → able ≡ false → Ends able w w out out
 ends-there able w out e = rw e (refl, wrote-none 0 out .run)
+
+-- all chunks, and the end of input by whether they could be read and written
+pub ran : {u v : Standing} {got : ℤ} {isWritten : Bool} (b : Bool) (out : List ℕ) {buf exit : List ℕ} → Reached v got isWritten buf
+    → b ≡ able got isWritten → Ends b v u out exit → Ran u got isWritten buf exit
+ran {v = v} b out reached e end =
+    record { last = v; out = out; reached = reached; after = rw (← e) (end .0); prints = rw (← e) (end .1) }

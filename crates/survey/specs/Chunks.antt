@@ -30,19 +30,20 @@ able got isWritten = leZ (pos 0) got && isWritten
 abbrev pub goesOn : (got : ℤ) (isWritten : Bool) (lines : ℕ) → Bool
 goesOn got isWritten lines = isWritten && (ltZ (pos 0) got && ltb lines million)
 
--- chunk after chunk from the start: where they leave the job, whether the system was able to the last, and whether there is another
-pub data Chunks : List (List ℕ) → Standing → (able more : Bool) → Type 0 where
-  none : Chunks [] begun true true
-  next : {cs : List (List ℕ)} {w : Standing} {was : Bool} (got : ℤ) (isWritten : Bool) (buf : List ℕ) → Chunks cs w was true
-      → Chunks (cs ++ (bytesRead got buf ∷ [])) (afterBytes w (bytesRead got buf)) (able got isWritten)
-      (goesOn got isWritten (afterBytes w (bytesRead got buf) .lines))
+-- chunks from the start, each with another behind it, and where they leave the job
+pub data Chunks : List (List ℕ) → Standing → Type 0 where
+  none : Chunks [] begun
+  next : {cs : List (List ℕ)} {w : Standing} (got : ℤ) (isWritten : Bool) (buf : List ℕ) → Chunks cs w
+      → goesOn got isWritten (afterBytes w (bytesRead got buf) .lines) ≡ true
+      → Chunks (cs ++ (bytesRead got buf ∷ [])) (afterBytes w (bytesRead got buf))
 
--- all chunks: behind the last there is no other, or so many were read as the loop counts
-pub record Reached (v : Standing) (able : Bool) : Type 0 where
+-- the last chunk, by what its read and its write answered: behind it there is no other, or so many were read as the loop counts
+pub record Reached (v : Standing) (got : ℤ) (isWritten : Bool) (buf : List ℕ) : Type 0 where
   pub chunks : List (List ℕ)
-  pub more : Bool
-  pub reads : Chunks chunks v able more
-  pub ended : (more ≡ false) ⊎ (length chunks + 1 ≡ 2 ^ 64)
+  pub before : Standing
+  pub reads : Chunks chunks before
+  pub after : v ≡ afterBytes before (bytesRead got buf)
+  pub ended : (goesOn got isWritten (v .lines) ≡ false) ⊎ (length chunks + 2 ≡ 2 ^ 64)
 
 -- the end of input: a line that it ends is taken only where all before it could be read and written
 abbrev pub afterInput : Bool → Standing → Standing
@@ -50,3 +51,11 @@ afterInput able w = cond able (afterLast w) w
 
 abbrev pub printedAfter : Bool → Standing → List ℕ
 printedAfter able w = cond able (printedLast w) []
+
+-- a whole run: all chunks, then the end of input
+pub record Ran (u : Standing) (got : ℤ) (isWritten : Bool) (buf exit : List ℕ) : Type 0 where
+  pub last : Standing
+  pub out : List ℕ
+  pub reached : Reached last got isWritten buf
+  pub after : u ≡ afterInput (able got isWritten) last
+  pub prints : exit ≡ written 0 (printedAfter (able got isWritten) last) out

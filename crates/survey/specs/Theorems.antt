@@ -5,15 +5,18 @@ use mathlib.Core.List.{List, [], _∷_, _++_, flatten}
 use mathlib.Core.Path.{_≡_}
 use lib.IntN.{ℤ, pos}
 use Rattle.session.specs.Outputs.{output}
-use Rattle.session.specs.Standings.{Standing, afterBytes, begun, printedFor}
-use Rattle.survey.specs.Chunks.{Chunks, able, bytesRead, goesOn}
+use Rattle.session.specs.Standings.{Standing, begun, printedFor}
+use Rattle.survey.specs.Chunks.{Reached, able, bytesRead, goesOn}
 
--- Chunks, each with another behind it, and a last with none print the output of the input. The rest of the input is what is not read:
--- nothing, where the last read answered 0.
+-- the chunks of a run
+abbrev pub chunksOf : {v : Standing} {got : ℤ} {isWritten : Bool} {buf : List ℕ} → Reached v got isWritten buf → List (List ℕ)
+chunksOf {got = got} {buf = buf} r = r .chunks ++ (bytesRead got buf ∷ [])
+
+-- A run that ends by itself, and of which all could be read and written, prints the output of its input. The rest of the input is what it
+-- did not read: nothing, where the last read answered 0.
 abbrev pub Prints : Type 0
-Prints = (chunks : List (List ℕ)) (w : Standing) (was : Bool) (got : ℤ) (buf rest : List ℕ)
-    → Chunks chunks w was true
+Prints = (v : Standing) (got : ℤ) (buf rest : List ℕ) (r : Reached v got true buf)
+    → goesOn got true (v .lines) ≡ false
     → able got true ≡ true
-    → goesOn got true (afterBytes w (bytesRead got buf) .lines) ≡ false
     → (got ≡ pos 0 → rest ≡ [])
-    → (let all = chunks ++ (bytesRead got buf ∷ []) in printedFor begun all ≡ output (flatten all ++ rest))
+    → printedFor begun (chunksOf r) ≡ output (flatten (chunksOf r) ++ rest)

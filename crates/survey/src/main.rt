@@ -9,7 +9,7 @@ ghost use Rattle.gate.specs.Lent.{atEntry, atExit};
 ghost use Rattle.machine.specs.Step.{written};
 ghost use Rattle.session.specs.Kept.{DealerFits, Grown, MasksFit, RecordFits, emptyWords, entering, leaving, noLines};
 ghost use Rattle.session.specs.Outputs.{zeroWords};
-ghost use Rattle.survey.specs.Chunks.{Reached, Took, able, afterInput, printedAfter};
+ghost use Rattle.survey.specs.Chunks.{Ran, Reached, Took, afterInput, printedAfter};
 use chunks::able;
 use chunks::goes_on;
 use chunks::take_read;
@@ -46,6 +46,7 @@ fn take_chunk(
     requires machine { ⌜ RecordFits (now «record») ⌝ }
     requires masks { ⌜ MasksFit (p .counts) (now m0) (now m1) (now m2) ⌝ }
     requires dealer { ⌜ DealerFits (p .counts) (now dealer) ⌝ }
+    requires some { ⌜ 0 < length (now buf) ⌝ }
     requires room { ⌜ 105 * length (now buf) ≤ length (now out) ⌝ }
     ensures took { λ r. ⌜ Took (entering p «record» m0 m1 m2 dealer c0 c1 c2) (leaving (r .progress) «record» m0 m1 m2 dealer c0 c1 c2)
         (r .got) (now (buf .exit)) (now (out .entry)) (now (out .exit)) ⌝ }
@@ -92,8 +93,9 @@ fn take_input(
     requires masks { ⌜ MasksFit noLines (now m0) (now m1) (now m2) ⌝ }
     requires dealer { ⌜ DealerFits noLines (now dealer) ⌝ }
     requires channels { ⌜ ((now c0 ≡ zeroWords) × ((now c1 ≡ zeroWords) × (now c2 ≡ zeroWords))) ⌝ }
+    requires some { ⌜ 0 < length (now buf) ⌝ }
     requires room { ⌜ 105 * length (now buf) ≤ length (now out) ⌝ }
-    ensures reached { λ r. ⌜ Reached (leaving (r .progress) «record» m0 m1 m2 dealer c0 c1 c2) (able (r .got) (r .«is_written»)) ⌝ }
+    ensures reached { λ r. ⌜ Reached (leaving (r .progress) «record» m0 m1 m2 dealer c0 c1 c2) (r .got) (r .«is_written») (now (buf .exit)) ⌝ }
     ensures machine { λ r. ⌜ RecordFits (now («record» .exit)) ⌝ }
     ensures masks { λ r. ⌜ MasksFit (r .progress .counts) (now (m0 .exit)) (now (m1 .exit)) (now (m2 .exit)) ⌝ }
     ensures dealer { λ r. ⌜ DealerFits (r .progress .counts) (now (dealer .exit)) ⌝ }
@@ -145,6 +147,40 @@ fn end_input(
     last.progress
 }
 
+// A whole job: where it stands at the end, and what the read and the write of its last chunk answered.
+fn run_job(
+    buf: &mut [u8],
+    record: &mut [u64],
+    m0: &mut [u64],
+    m1: &mut [u64],
+    m2: &mut [u64],
+    dealer: &mut [u64],
+    c0: &mut [u64],
+    c1: &mut [u64],
+    c2: &mut [u64],
+    out: &mut [u8],
+) -> Turn
+    requires machine { ⌜ now «record» ≡ emptyWords ⌝ }
+    requires masks { ⌜ MasksFit noLines (now m0) (now m1) (now m2) ⌝ }
+    requires dealer { ⌜ DealerFits noLines (now dealer) ⌝ }
+    requires channels { ⌜ ((now c0 ≡ zeroWords) × ((now c1 ≡ zeroWords) × (now c2 ≡ zeroWords))) ⌝ }
+    requires some { ⌜ 0 < length (now buf) ⌝ }
+    requires room { ⌜ 105 * length (now buf) ≤ length (now out) ⌝ }
+    ensures ran { λ r. ⌜ Ran (leaving (r .progress) «record» m0 m1 m2 dealer c0 c1 c2)
+        (r .got) (r .«is_written») (now (buf .exit)) (now (out .exit)) ⌝ }
+    ensures rest { λ r. ⌜ Grown noLines (r .progress .counts) (atEntry m0 m1 m2) (atExit m0 m1 m2) (now (dealer .entry)) (now (dealer .exit)) ⌝ }
+{
+    let last = take_input(buf, record, m0, m1, m2, dealer, c0, c1, c2, out);
+    let p = last.progress;
+    let is_able = able(last.got, last.is_written);
+    let progress = end_input(p, is_able, record, m0, m1, m2, dealer, c0, c1, c2, out);
+    Turn {
+        progress,
+        got: last.got,
+        is_written: last.is_written,
+    }
+}
+
 fn main() {
     let mut buf = [0u8; 2496];
     let mut record = [0u64; 83];
@@ -156,22 +192,8 @@ fn main() {
     let mut c1 = [0u64; 1024];
     let mut c2 = [0u64; 1024];
     let mut out = [0u8; 262080];
-    let last = take_input(
+    run_job(
         &mut buf,
-        &mut record,
-        &mut m0,
-        &mut m1,
-        &mut m2,
-        &mut dealer,
-        &mut c0,
-        &mut c1,
-        &mut c2,
-        &mut out,
-    );
-    let p = last.progress;
-    end_input(
-        p,
-        able(last.got, last.is_written),
         &mut record,
         &mut m0,
         &mut m1,

@@ -10,26 +10,21 @@ use Rattle.survey.proofs.main.Tie as tie
 zeros : (n : ℕ) → length (replicate {A = ℕ} n 0) ≡ n
 zeros n = length-replicate n 0
 
-sizes : tie.Need-take-input-requires
+sizes : tie.Need-run-job-requires
 sizes c κs = (
   refl {a = replicate {A = ℕ} 83 0},
   (
     record { zero = zeros 512; one = zeros 512; two = zeros 512; few = omega arith },
-    (record { run = zeros 512; few = omega arith }, ((refl, (refl, refl)), omega (arith, zeros 2496, zeros 262080))),
+    (
+      record { run = zeros 512; few = omega arith },
+      ((refl, (refl, refl)), (omega (arith, zeros 2496), omega (arith, zeros 2496, zeros 262080))),
+    ),
   ),
 )
-
-ends : tie.Need-end-input-requires
-ends c κs =
-    let given = c .before .before .before .before .before .before .before .before .before .before .before .before in
-    let told = given .before .before .before .before .before .before .before .before .before .before .take-input .ensures in
-    (told .1 .0, (told .1 .1 .0, (told .1 .1 .1 .0, omega (arith, given .out2 .given, zeros 262080))))
 
 pub main-spec : {M : Type 1} → statement M
 main-spec =
     tie.close
     (tie.spec
     (λ c. search needs) (λ c. search needs) (λ c. search needs) (λ c. search needs) (λ c. search needs)
-    (λ c. search needs) (λ c. search needs) (λ c. search needs) (λ c. search needs) (λ c. search needs) sizes (λ c κs. search needs)
-    (λ c. search needs) (λ c. search needs) (λ c. search needs) (λ c. search needs) (λ c. search needs)
-    (λ c. search needs) (λ c. search needs) (λ c. search needs) (λ c. search needs) ends (λ c. search needs))
+    (λ c. search needs) (λ c. search needs) (λ c. search needs) (λ c. search needs) (λ c. search needs) sizes (λ c. search needs))

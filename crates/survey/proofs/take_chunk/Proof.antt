@@ -17,7 +17,7 @@ takes : tie.Need-take-read-requires
 takes c κs =
     let read = filled c in
     let a = start read .pre in
-    (a .0, (a .1 .0, (a .1 .1 .0, omega (arith, read .buf .given, a .1 .1 .1))))
+    (a .0, (a .1 .0, (a .1 .1 .0, omega (arith, read .buf .given, a .1 .1 .1 .1))))
 
 done : tie.Need-returns
 done c = let told = taken c .take-read .ensures in (record { after = told .0; prints = told .1 .0 .run }, told .1 .1 .1)

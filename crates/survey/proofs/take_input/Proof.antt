@@ -1,5 +1,6 @@
 -- Chunk after chunk: the turns fall, and the runs keep their room.
-use Prim.Native.Nat.{ℕ, _<_}
+use Prim.Native.Nat.{ℕ, _-_, _<_}
+use mathlib.Core.Bool.{Bool, cond}
 use mathlib.Core.List.{List}
 use mathlib.Core.Path.{_≡_, ap, refl, sym, _∙_}
 use native.Mathlib.Omega.{arith}
@@ -15,14 +16,14 @@ use Rattle.session.specs.Standings.{Standing}
 use Rattle.session.specs.declared.progress.Progress.{Progress}
 use Rattle.session.proofs.GrownLaw.{counts-same, grown-on}
 use Rattle.session.proofs.RecordLaw.{empty-fits}
-use Rattle.survey.specs.Chunks.{able, goesOn}
-use Rattle.survey.proofs.LoopLaw.{Reading, begins, ended, fewer-left, reads-on}
+use Rattle.survey.specs.Chunks.{goesOn}
+use Rattle.survey.proofs.LoopLaw.{Reading, begins, ended, fewer-left, first, going, later}
 use Rattle.survey.proofs.take_input.Statement.{statement}
 use Rattle.survey.proofs.take_input.Tie as tie
 
 abbrev Inv-loop : tie.InvT-loop
 Inv-loop buf₀ ws₀ m0₀ m1₀ m2₀ dealer₀ c0₀ c1₀ c2₀ out₀ turn₀ turns₀ buf ws m0 m1 m2 dealer c0 c1 c2 out turn turns =
-    Reading (standingOf (turn .progress) ws m0 m1 m2 dealer (three c0 c1 c2)) (able (turn .got) (turn .«is_written»)) turns
+    Reading (standingOf (turn .progress) ws m0 m1 m2 dealer (three c0 c1 c2)) (turn .got) (turn .«is_written») buf turns
     × (RecordFits ws
     × (MasksFit (turn .progress .counts) m0 m1 m2
     × (DealerFits (turn .progress .counts) dealer
@@ -42,12 +43,12 @@ entered c = c .before .before .before .before .before .before .before .before .b
 abbrev called : tie.After-left Inv-loop μ-loop → tie.After-take-chunk Inv-loop μ-loop
 called c = c .before .before .before .before .before .before .before .before .before .before .before .before .before .before .before .before .before .before .before .before .before
 
-first : tie.Need-loop-holds Inv-loop μ-loop
-first c =
+starting : tie.Need-loop-holds Inv-loop μ-loop
+starting c =
     let a = start c in
     let made = ap (λ (p : Progress). p .counts) (c .start .ensures) in
     let fit = counts-same made (a .pre .1 .0, a .pre .1 .1 .0) in (
-      begins (a .args .m0 .now) (a .args .m1 .now) (a .args .m2 .now) (a .args .dealer .now) (c .start .ensures) (a .pre .0) (a .pre .1 .1 .1 .0),
+      first (begins (a .args .m0 .now) (a .args .m1 .now) (a .args .m2 .now) (a .args .dealer .now) (c .start .ensures) (a .pre .0) (a .pre .1 .1 .1 .0)) refl,
       (rw (a .pre .0) empty-fits, (fit .0, (fit .1 .0, (fit .1 .1, (refl, (refl, (refl, (refl, refl)))))))),
     )
 
@@ -56,7 +57,8 @@ takes c κs =
     let at = entered c .before in
     let inv = at .loop .inv .1 in
     let room = inv .1 .1 .1 .1 in
-    (inv .0, (inv .1 .0, (inv .1 .1 .0, omega (arith, room .0, room .1 .0, start (at .before) .pre .1 .1 .1 .1))))
+    let lent = start (at .before) .pre .1 .1 .1 .1 in
+    (inv .0, (inv .1 .0, (inv .1 .1 .0, (omega (arith, room .0, lent .0), omega (arith, room .0, room .1 .0, lent .1)))))
 
 left : (c : tie.In-loop Inv-loop μ-loop) → 0 < c .before .loop .turns
 left c = omega arith
@@ -73,6 +75,12 @@ leaves chunk =
     standingOf (chunk .take-chunk .result .progress) (words .0) (left .0) (left .1 .0) (left .1 .1 .0) (left .1 .1 .1 .0)
     (three {A = List ℕ} (channels .0) (channels .1 .0) (channels .1 .1 .0))
 
+-- where it stood before
+abbrev stands : tie.In-loop Inv-loop μ-loop → Standing
+stands c =
+    let l = c .before .loop in
+    standingOf (l .turn .progress) (l .«record») (l .m0) (l .m1) (l .m2) (l .dealer) (three {A = List ℕ} (l .c0) (l .c1) (l .c2))
+
 again : tie.Need-loop-again Inv-loop μ-loop
 again c =
     let lent = c .before .before .before in
@@ -84,8 +92,10 @@ again c =
     let at = entered (chunk .before) in
     let inv = at .before .loop .inv in
     let room = inv .1 .1 .1 .1 .1 in
+    let goes = going (inv .0) (left at) in
     let told = chunk .take-chunk .ensures in (
-      reads-on (chunk .take-chunk .result .got) (chunk .take-chunk .result .«is_written») (c .before .goes-on .result) {v = leaves chunk} (inv .0) (left at) (told .0) (c .before .goes-on .ensures ∙ ap (λ (z : ℤ). goesOn z (chunk .take-chunk .result .«is_written») (leaves chunk .lines)) back) (c .fewer .ensures),
+      later (goes .chunks) (stands at) (at .before .loop .turns) (goes .reads) (told .0 .after) (left at) (goes .count)
+          (c .fewer .ensures ∙ ap (λ (more : Bool). cond more (at .before .loop .turns - 1) 0) (c .before .goes-on .ensures ∙ ap (λ (z : ℤ). goesOn z (chunk .take-chunk .result .«is_written») (leaves chunk .lines)) back)),
       (told .1 .0, (told .1 .1 .0, (told .1 .1 .1 .0, (grown-on (inv .1 .1 .1 .1 .0) (told .1 .1 .1 .1), (omega (arith, room .0), (omega (arith, room .1 .0), (omega (arith, room .1 .1 .0, c0 .c0 .given), (omega (arith, room .1 .1 .1 .0, c1 .c1 .given), omega (arith, room .1 .1 .1 .1, c2 .c2 .given))))))))),
     )
 
@@ -104,6 +114,6 @@ pub take-input-spec : {M : Type 1} → statement M
 take-input-spec =
     tie.close
     (tie.spec Inv-loop μ-loop
-    (λ c κs. search needs) first takes (λ c κs. search needs) (λ c κs. left (entered (called (c .before .before) .before))) less again
+    (λ c κs. search needs) starting takes (λ c κs. search needs) (λ c κs. left (entered (called (c .before .before) .before))) less again
     (λ c. omega arith) same-record (λ c. omega arith) (λ c. omega arith) (λ c. omega arith)
     (λ c. omega arith) (λ c. omega arith) (λ c. omega arith) (λ c. omega arith) (λ c. omega arith) done)
