@@ -4,7 +4,7 @@
 
 use jobs::tally::Tally;
 use std::fs::{read, File, OpenOptions};
-use std::io::{pipe, Write};
+use std::io::Write;
 use std::os::fd::OwnedFd;
 use std::os::unix::net::UnixStream;
 use std::process::{Command, Output, Stdio};
@@ -40,9 +40,10 @@ fn full() -> Stdio {
     device.expect("the device").into()
 }
 
-/// A pipe that nobody reads any more.
+/// An output that nobody reads any more.
 fn broken() -> Stdio {
-    pipe().expect("a pipe").1.into()
+    let (near, _) = UnixStream::pair().expect("a pair");
+    OwnedFd::from(near).into()
 }
 
 /// Input that neither ends nor goes on: the read after the text fails. It stays so while the first of the two is kept.
@@ -99,18 +100,25 @@ fn cut_line(tally: &mut Tally, survey: &str) {
     tally.case(same, || format!("{found:?}"));
 }
 
+/// Raw bytes that would do, and then a read that fails: nothing is printed.
+fn cut_bytes(tally: &mut Tally, draw: &str) {
+    let (_near, input) = stuck(&[7; 800]);
+    let found = run(&[draw, "31", "2", "dealer"], input, Stdio::piped());
+    let errors = "draw: standard input: Resource temporarily unavailable\n";
+    tally.case(says(&found, b"", errors), || format!("{found:?}"));
+}
+
 /// `bash run` exits with 1 where the program tells a failure.
 fn exit_status(tally: &mut Tally) {
-    let mut case = |path: &str, output: Stdio, status: i32, errors: &str| {
+    let mut case = |path: &str, output: Stdio, status: i32, printed: &[u8], errors: &str| {
         let found = run(&["bash", "run", path], Stdio::null(), output);
-        let told = String::from_utf8_lossy(&found.stderr).ends_with(errors);
-        tally.case(told && found.status.code() == Some(status), || {
-            format!("{found:?}")
-        });
+        let same = found.status.code() == Some(status) && says(&found, printed, errors);
+        tally.case(same, || format!("{found:?}"));
     };
-    case("/", Stdio::piped(), 1, UNREAD);
-    case(JOB, full(), 1, UNWRITTEN);
-    case(JOB, Stdio::piped(), 0, "");
+    let printed = read(PRINTED).expect("lines");
+    case("/", Stdio::piped(), 1, b"", UNREAD);
+    case(JOB, full(), 1, b"", UNWRITTEN);
+    case(JOB, Stdio::piped(), 0, &printed, "");
 }
 
 fn main() {
@@ -120,6 +128,7 @@ fn main() {
     let mut tally = Tally::default();
     programs(&mut tally, &survey, &draw);
     cut_line(&mut tally, &survey);
+    cut_bytes(&mut tally, &draw);
     exit_status(&mut tally);
     tally.finish();
 }

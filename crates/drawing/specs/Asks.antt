@@ -1,4 +1,5 @@
 -- What the three arguments ask for: a ring code of 01, "Preparing a tape", a count of lines, and their kind.
+-- Used by the code's contracts alone: no theorem's statement speaks of it.
 use Prim.Native.Nat.{ℕ, _≤_}
 use mathlib.Core.Bool.{Bool, cond, false, not, true, _&&_, _||_}
 use mathlib.Core.List.{List, [], _∷_}

@@ -1,7 +1,6 @@
 -- What was read so far stands within the run.
-use Prim.Native.Nat.{ℕ, _-_, _≤_}
+use Prim.Native.Nat.{_-_, _≤_}
 use mathlib.Core.Path.{_≡_}
-use native.Mathlib.Omega.{arith}
 use borrow.Author.Needs.{needs}
 use lib.ListN.{length}
 use Rattle.draw.proofs.read_raw.Statement.{statement}
