@@ -1,5 +1,8 @@
 //! The library for Rust programs: every run of words is a slice. include/survey.h has the layout of the words.
 
+/// Returned for words in no layout: 01's refusals end at 13, and 02's, 14 to 23, stay free.
+pub const MALFORMED: u64 = 100;
+
 extern "C" {
     fn survey_step(
         order: *const u64,

@@ -8,9 +8,10 @@ mod steps;
 mod tapes;
 
 use arena::Arena;
+use interface::survey::MALFORMED;
 use jobs::draw::Draw;
 use jobs::tally::{argument, Tally};
-use reference::layout::{prepare_words, step_words, MALFORMED};
+use reference::layout::{prepare_words, step_words};
 use reference::machine::Lent;
 
 const CASES: u64 = 200_000;

@@ -3,7 +3,7 @@ use Prim.Native.Nat.{ℕ, _+_, _-_, _<_}
 use mathlib.Core.Bool.{Bool, cond, false, true}
 use mathlib.Core.List.{List, [], _∷_, _++_}
 use mathlib.Core.Logic.{inl, inr}
-use mathlib.Core.Path.{_≡_, ap, refl, subst, sym, _∙_}
+use mathlib.Core.Path.{_≡_}
 use native.Mathlib.Omega.{arith}
 use lib.IntN.{ℤ}
 use lib.ListN.{length, length-append}
@@ -14,7 +14,7 @@ use Rattle.session.specs.Outputs.{zeroWords}
 use Rattle.session.specs.Standings.{Standing, afterBytes, begun}
 use Rattle.session.specs.declared.progress.Progress.{Progress}
 use Rattle.session.proofs.Theorems.{starts}
-use Rattle.survey.specs.Chunks.{Chunks, Reached, Took, bytesRead, goesOn, next, none}
+use Rattle.survey.specs.Chunks.{Chunks, Reached, bytesRead, goesOn, next, none}
 
 -- u64::MAX, from which turns are counted down
 abbrev most : ℕ
