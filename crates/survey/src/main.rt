@@ -173,9 +173,9 @@ fn run_job(
     let last = take_input(buf, record, m0, m1, m2, dealer, c0, c1, c2, out);
     let p = last.progress;
     let is_able = able(last.got, last.is_written);
-    let progress = end_input(p, is_able, record, m0, m1, m2, dealer, c0, c1, c2, out);
+    let ended = end_input(p, is_able, record, m0, m1, m2, dealer, c0, c1, c2, out);
     Turn {
-        progress,
+        progress: ended,
         got: last.got,
         is_written: last.is_written,
     }
