@@ -37,7 +37,7 @@ last-read (pos (suc n)) lines fine over = inr (ltb-false lines million (rw (lt-l
 last-read (negsuc n) lines fine over = let never : _≡_ {A = ℕ} 0 1 = cc (fine) in absurd (omega arith)
 
 pub prints : theorem.Prints
-prints v got buf rest r over fine ends = ⊎-elim at-end (λ late. whole all .1 rest (stops late)) (last-read got (v .lines) fine over)
+prints v got buf rest r fine ends = ⊎-elim at-end (λ late. whole all .1 rest (stops late)) (last-read got (v .lines) fine (r .ended))
   where
     all : List (List ℕ)
     all = theorem.chunksOf r
