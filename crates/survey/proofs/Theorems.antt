@@ -1,7 +1,7 @@
 -- What the program prints (specs/Theorems.antt).
 use Prim.Native.Nat.{ℕ, zero, suc, _≤_}
 use mathlib.Core.Bool.{false, true}
-use mathlib.Core.List.{List, [], _∷_, _++_, append-assoc, append-nil, flatten}
+use mathlib.Core.List.{List, [], _∷_, _++_, append-nil, flatten}
 use mathlib.Core.Logic.{_⊎_, inl, inr, ⊎-elim}
 use mathlib.Core.Path.{_≡_, ap, refl, subst, sym, _∙_}
 use native.Mathlib.Omega.{arith}
@@ -13,11 +13,7 @@ use Rattle.session.specs.Standings.{Standing, afterBytes, begun, printedFor}
 use Rattle.session.proofs.Theorems.{in-chunks, whole}
 use Rattle.survey.specs.Chunks.{Chunks, able, bytesRead, goesOn, next, none}
 use Rattle.survey.specs.Theorems as theorem
-
-flatten-last : (chunks : List (List ℕ)) (last : List ℕ) → flatten (chunks ++ (last ∷ [])) ≡ flatten chunks ++ last
-unfolding flatten
-flatten-last [] last = append-nil last
-flatten-last (c ∷ cs) last = rw (flatten-last cs last, append-assoc) refl
+use Rattle.survey.proofs.LoopLaw.{flatten-last}
 
 -- where the bytes of chunks leave a job
 after-last : (chunks : List (List ℕ)) (last : List ℕ) {w : Standing} → w ≡ afterBytes begun (flatten chunks)
@@ -37,7 +33,7 @@ last-read (pos (suc n)) lines fine over = inr (ltb-false lines million (rw (lt-l
 last-read (negsuc n) lines fine over = let never : _≡_ {A = ℕ} 0 1 = cc (fine) in absurd (omega arith)
 
 pub prints : theorem.Prints
-prints v got buf rest r fine ends = ⊎-elim at-end (λ late. whole all .1 rest (stops late)) (last-read got (v .lines) fine (r .ended))
+prints v got buf rest r over fine ends = ⊎-elim at-end (λ late. whole all .1 rest (stops late)) (last-read got (v .lines) fine over)
   where
     all : List (List ℕ)
     all = theorem.chunksOf r

@@ -1,7 +1,8 @@
 -- 01, "The job program": a job chunk by chunk, for whatever the system reads. What it reads and writes no contract can say.
-use Prim.Native.Nat.{ℕ}
+use Prim.Native.Nat.{ℕ, _+_, _≤_, _^_}
 use mathlib.Core.Bool.{Bool, cond, false, true, _&&_}
-use mathlib.Core.List.{List, [], _∷_, _++_}
+use mathlib.Core.List.{List, [], _∷_, _++_, flatten}
+use mathlib.Core.Logic.{_⊎_}
 use mathlib.Core.Path.{_≡_}
 use lib.Dec.{ltb}
 use lib.IntN.{ℤ, pos}
@@ -36,13 +37,13 @@ pub data Chunks : List (List ℕ) → Standing → Type 0 where
       → goesOn got isWritten (afterBytes w (bytesRead got buf) .lines) ≡ true
       → Chunks (cs ++ (bytesRead got buf ∷ [])) (afterBytes w (bytesRead got buf))
 
--- the last chunk, by what its read and its write answered: behind it there is no other
+-- the last chunk, by what its read and its write answered: behind it there is no other, or 2^64 - 2 bytes were read before it
 pub record Reached (v : Standing) (got : ℤ) (isWritten : Bool) (buf : List ℕ) : Type 0 where
   pub chunks : List (List ℕ)
   pub before : Standing
   pub reads : Chunks chunks before
   pub after : v ≡ afterBytes before (bytesRead got buf)
-  pub ended : goesOn got isWritten (v .lines) ≡ false
+  pub ended : (goesOn got isWritten (v .lines) ≡ false) ⊎ (2 ^ 64 ≤ length (flatten chunks) + 2)
 
 -- the end of input: a line that it ends is taken only where all before it could be read and written
 abbrev pub afterInput : Bool → Standing → Standing

@@ -76,8 +76,7 @@ fn fewer(turns: u64, more: bool) -> u64
     if more { turns - 1 } else { 0 }
 }
 
-// All chunks. A proved loop has to end, so it counts its turns down, from a number that no run uses up; one that did would end as
-// where a write fails.
+// All chunks. A proved loop has to end, so it counts its turns down, from a number that no run uses up.
 fn take_input(
     buf: &mut [u8],
     record: &mut [u64],
@@ -114,9 +113,6 @@ fn take_input(
         let left = turn.progress;
         turns = fewer(turns, goes_on(turn.got, turn.is_written, left.lines));
     }
-    let p = turn.progress;
-    let more = goes_on(turn.got, turn.is_written, p.lines);
-    turn.is_written = turn.is_written & !more;
     turn
 }
 

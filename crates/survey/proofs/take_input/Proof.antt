@@ -1,5 +1,6 @@
 -- Chunk after chunk: the turns fall, and the runs keep their room.
-use Prim.Native.Nat.{ℕ, _<_}
+use Prim.Native.Nat.{ℕ, _-_, _<_}
+use mathlib.Core.Bool.{Bool, cond}
 use mathlib.Core.List.{List}
 use mathlib.Core.Path.{_≡_, ap, refl, sym, _∙_}
 use native.Mathlib.Omega.{arith}
@@ -16,7 +17,7 @@ use Rattle.session.specs.declared.progress.Progress.{Progress}
 use Rattle.session.proofs.GrownLaw.{counts-same, grown-on}
 use Rattle.session.proofs.RecordLaw.{empty-fits}
 use Rattle.survey.specs.Chunks.{goesOn}
-use Rattle.survey.proofs.LoopLaw.{Reading, begins, ended, fewer-left, first, going, later, none-left}
+use Rattle.survey.proofs.LoopLaw.{Reading, begins, ended, fewer-left, first, going, later}
 use Rattle.survey.proofs.take_input.Statement.{statement}
 use Rattle.survey.proofs.take_input.Tie as tie
 
@@ -47,7 +48,7 @@ starting c =
     let a = start c in
     let made = ap (λ (p : Progress). p .counts) (c .start .ensures) in
     let fit = counts-same made (a .pre .1 .0, a .pre .1 .1 .0) in (
-      first (begins (a .args .m0 .now) (a .args .m1 .now) (a .args .m2 .now) (a .args .dealer .now) (c .start .ensures) (a .pre .0) (a .pre .1 .1 .1 .0)) (omega arith),
+      first (begins (a .args .m0 .now) (a .args .m1 .now) (a .args .m2 .now) (a .args .dealer .now) (c .start .ensures) (a .pre .0) (a .pre .1 .1 .1 .0)) refl,
       (rw (a .pre .0) empty-fits, (fit .0, (fit .1 .0, (fit .1 .1, (refl, (refl, (refl, (refl, refl)))))))),
     )
 
@@ -92,23 +93,23 @@ again c =
     let inv = at .before .loop .inv in
     let room = inv .1 .1 .1 .1 .1 in
     let goes = going (inv .0) (left at) in
+    let on = c .before .goes-on .ensures ∙ ap (λ (z : ℤ). goesOn z (chunk .take-chunk .result .«is_written») (leaves chunk .lines)) back in
+    let filled = lent .before .before .before .before .before .before .before .before .before .before .before .before .before .before .before .before .before .before .before .before in
+    let some : 0 < length (chunk .take-chunk .last .1 .0) = omega (arith, room .0, filled .buf .given, start (at .before .before) .pre .1 .1 .1 .1 .0) in
     let told = chunk .take-chunk .ensures in (
-      later (goes .0) (stands at) (goes .1) (told .0 .after)
-          (none-left (at .before .loop .turns) (c .before .goes-on .result) (c .fewer .ensures) (c .before .goes-on .ensures ∙ ap (λ (z : ℤ). goesOn z (chunk .take-chunk .result .«is_written») (leaves chunk .lines)) back)),
+      later (goes .chunks) (stands at) (at .before .loop .turns) (goes .reads) (told .0 .after) some (left at) (goes .bytes)
+          (c .fewer .ensures ∙ ap (λ (more : Bool). cond more (at .before .loop .turns - 1) 0) on),
       (told .1 .0, (told .1 .1 .0, (told .1 .1 .1 .0, (grown-on (inv .1 .1 .1 .1 .0) (told .1 .1 .1 .1), (omega (arith, room .0), (omega (arith, room .1 .0), (omega (arith, room .1 .1 .0, c0 .c0 .given), (omega (arith, room .1 .1 .1 .0, c1 .c1 .given), omega (arith, room .1 .1 .1 .1, c2 .c2 .given))))))))),
     )
 
 -- behind the loop
-abbrev looped : tie.After-struct-known Inv-loop μ-loop → tie.After-loop Inv-loop μ-loop
-looped c = c .before .before .before .before
-
 used-up : (c : tie.After-loop Inv-loop μ-loop) → c .before .loop .turns ≡ 0
 used-up c = omega arith
 
 -- what the runs had at entry, and have there
-module _ (c : tie.After-struct-known Inv-loop μ-loop) where
+module _ (c : tie.After-loop Inv-loop μ-loop) where
   abbrev at : tie.At-loop Inv-loop μ-loop
-  at = looped c .before
+  at = c .before
 
   abbrev given : tie.Start Inv-loop μ-loop
   given = start (at .before)
@@ -118,18 +119,14 @@ same-record c = says-length (at c .loop .inv .1 .0 .says) ∙ sym (ap length (gi
 
 done : tie.Need-returns Inv-loop μ-loop
 done c =
-    let turn = at c .loop .turn in
     let inv = at c .loop .inv in
-    let back = toZ-ofZ {w = w64} {z = turn .got} (record { sfits = c .before .before .struct-told2 .given .1 .0 .1 }) in
-    let goes = c .before .goes-on2 .ensures ∙ ap (λ (z : ℤ). goesOn z (turn .«is_written») (turn .progress .lines)) back in
-    (ended (inv .0) (used-up (looped c)) goes, (inv .1 .0, (inv .1 .1 .0, (inv .1 .1 .1 .0, inv .1 .1 .1 .1 .0))))
+    (ended (inv .0) (used-up c), (inv .1 .0, (inv .1 .1 .0, (inv .1 .1 .1 .0, inv .1 .1 .1 .1 .0))))
 
 pub take-input-spec : {M : Type 1} → statement M
 take-input-spec =
     tie.close
     (tie.spec Inv-loop μ-loop
     (λ c κs. search needs) starting takes (λ c κs. search needs) (λ c κs. left (entered (called (c .before .before) .before))) less again
-    (λ c κs. search needs)
     (λ c. at c .loop .inv .1 .1 .1 .1 .1 .0)
     same-record
     (λ c. omega (arith, at c .loop .inv .1 .1 .0 .zero, given c .pre .1 .0 .zero))
