@@ -1,7 +1,6 @@
--- The hypotheses of demand 3 (crate `job`, specs/Secrecy.antt) hold of two runs that hold different numbers, so it says something of them.
+-- The hypotheses of demand 3 (crate `act`, specs/Secrecy.antt) hold of two runs that hold different numbers, so it says something of them.
 use mathlib.Core.List.{List, [], _∷_}
 use mathlib.Core.Path.{_≡_, refl}
-use lib.ListN.{replicate}
 use Rattle.ring.specs.Modular.{diff}
 use Rattle.ring.specs.Rings.{bitOf, modulus, quarter, ringOf}
 use Rattle.gate.specs.Gates.{crossed, gated, mask, word}
@@ -14,18 +13,20 @@ use Rattle.circuit.specs.Orders.{addition, composition, conversion, decompositi
 use Rattle.view.specs.Views.{lackedBy}
 use Rattle.machine.specs.Checks.{Tapes, anyAbove15, anyBad, anyOutside, firstMet, publicChecks}
 use Rattle.machine.specs.Registers.{emptyMachine, registerAt, sound, soundRegister, soundSlots, withRegister}
-use Rattle.machine.specs.Step.{Outcome, checks, computed, dealt, opened, step}
-use Rattle.job.specs.Jobs.{Alike, AlikeLists, Entry, Fair, IsRun, Job, Words, course, courseFrom, openedFrom, opens, views}
-use Rattle.job.specs.Jobs as jobs
-use Rattle.job.specs.Secrecy.{Change, Hides, Meet}
-use Rattle.secrecy.proofs.Secrecy.{secrecy}
+use Rattle.machine.specs.Step.{checks, computed, dealt, opened, step}
+use Rattle.machine.specs.declared.registers.Machine.{Machine}
+use Rattle.act.specs.Jobs.{Alike, AlikeLists, Entry, Fair, IsRun, Job, Outcome, Words, course, courseFrom, openedFrom, opens, views}
+use Rattle.act.specs.Jobs as jobs
+use Rattle.act.specs.Secrecy.{Change, Hides, Meet}
+use Rattle.protocol.specs.Orders.{orders}
+use Rattle.protocol.proofs.Secrecy.{secrecy}
 use Rattle.example.specs.Example.{J, K, T, T′, afterDeals, dealing}
-use Rattle.example.specs.Figures.{far, hidden, lines, linesFrom, own, table, values, valuesFrom, withHidden}
+use Rattle.example.specs.Figures.{far, hidden, lines, linesFrom, own, table, values, valuesFrom, valuesJ, valuesK, withHidden}
 use Rattle.example.proofs.TestLaw.{allWords, fair-of, fairly, words-of}
 
 -- a run's course, with all that it computes with
-unfoldable pub course-open : Job → Tapes → List Outcome
-unfolding diff bitOf modulus quarter ringOf crossed gated mask word total exclusive gather after channelled ends result sent upto words composeGates firstGate secondGate carryGate decomposeGates raisingGate runningGate zeroGate addition composition conversion decomposition multiplication quotientGate scaling shifting anyAbove15 anyBad anyOutside firstMet publicChecks emptyMachine registerAt sound soundRegister soundSlots withRegister checks computed dealt opened step course courseFrom openedFrom T T′ dealing afterDeals
+unfoldable pub course-open : Job orders → Tapes → List (Outcome Machine)
+unfolding diff bitOf modulus quarter ringOf crossed gated mask word total exclusive gather after channelled ends result sent upto words composeGates firstGate secondGate carryGate decomposeGates raisingGate runningGate zeroGate addition composition conversion decomposition multiplication quotientGate scaling shifting anyAbove15 anyBad anyOutside firstMet publicChecks emptyMachine registerAt sound soundRegister soundSlots withRegister checks computed dealt opened step courseFrom openedFrom T T′ dealing afterDeals
 course-open J T = course J T
 
 -- the two runs: what is answered, and the values held at the end
@@ -37,25 +38,25 @@ pub answers′ : lines K T′ ≡ table
 unfolding course-open linesFrom
 answers′ = refl
 
-pub holds : values J T ≡ 5 ∷ 7 ∷ 12 ∷ 1500 ∷ 35 ∷ 5 ∷ 5 ∷ 1 ∷ 5 ∷ replicate 7 0
+pub holds : values J T ≡ valuesJ
 unfolding course-open valuesFrom
 holds = refl
 
-pub holds′ : values K T′ ≡ 4 ∷ 8 ∷ 12 ∷ 1200 ∷ 32 ∷ 4 ∷ 4 ∷ 1 ∷ 4 ∷ replicate 7 0
+pub holds′ : values K T′ ≡ valuesK
 unfolding course-open valuesFrom
 holds′ = refl
 
 -- "two jobs alike in all but the numbers dealt"
-unfoldable pub like-itself : (es : List Entry) → AlikeLists es es
+unfoldable pub like-itself : (es : List (Entry orders)) → AlikeLists es es
 like-itself [] = jobs.done
-like-itself (e ∷ es) = jobs.more (record { order = jobs.same; masksLent = refl; dealerLent = refl }) (like-itself es)
+like-itself (e ∷ es) = jobs.more (record { act = refl; masksLent = refl; dealerLent = refl }) (like-itself es)
 
 unfoldable pub alike : Alike J K
 unfolding dealing
 alike =
     record {
-      entries = jobs.more (record { order = jobs.dealt; masksLent = refl; dealerLent = refl })
-          (jobs.more (record { order = jobs.dealt; masksLent = refl; dealerLent = refl }) (like-itself afterDeals));
+      entries = jobs.more (record { act = refl; masksLent = refl; dealerLent = refl })
+          (jobs.more (record { act = refl; masksLent = refl; dealerLent = refl }) (like-itself afterDeals));
       channels = refl;
       masksLength = refl;
       dealerLength = refl;
@@ -91,7 +92,7 @@ fair′ : Fair K T′
 unfolding course-open fairly
 fair′ = fair-of (K .entries) emptyMachine (K .channels) T′ refl
 
-pub opens-these : opens J T ≡ 12 ∷ 1 ∷ []
+pub opens-these : opens J T ≡ 12 ∷ 1 ∷ 4 ∷ []
 unfolding course-open
 opens-these = refl
 

@@ -15,7 +15,9 @@ use Rattle.machine.specs.Step.{valueOf}
 use Rattle.machine.specs.declared.orders.Order.{Order}
 use Rattle.machine.specs.declared.orders.Order.the-variants.{Add, Compose, Convert, Deal, Decompose, Multiply, Open, Scale, Shift}
 use Rattle.machine.specs.declared.registers.Machine.{Machine}
-use Rattle.job.specs.Jobs.{Entry, FairFrom, FairOrder, Words, done, fair, outcome}
+use Rattle.act.specs.Jobs.{Entry, FairFrom, Words, outcome}
+use Rattle.act.specs.Jobs as jobs
+use Rattle.protocol.specs.Orders.{RefusedNumber, TakesSmall, converted, decomposed, orders, seven, shifted}
 
 -- words of 64 bits
 unfoldable pub allWords : List ℕ → Bool
@@ -46,36 +48,37 @@ takesSmall (Shift d x s) m = small x m
 takesSmall (Compose d x f) m = true
 takesSmall (Open x) m = true
 
-fair-order : (o : Order) (m : Machine) (r : ℕ) → (r ≡ 7 → ⊥) → (r ≡ 10 → ⊥) → takesSmall o m ≡ true → FairOrder o m r
-fair-order (Deal d e v) m r seven ten t = record { number = seven; item = ten; small = λ z. tt }
-fair-order (Add d x y) m r seven ten t = record { number = λ h. h; item = ten; small = λ z. tt }
-fair-order (Scale d x c) m r seven ten t = record { number = λ h. h; item = ten; small = λ z. tt }
-fair-order (Multiply d x y) m r seven ten t = record { number = λ h. h; item = ten; small = λ z. tt }
-fair-order (Decompose d x l) m r seven ten t = record { number = λ h. h; item = ten; small = λ z. ltb-true _ _ t }
-fair-order (Convert d x f) m r seven ten t = record { number = λ h. h; item = ten; small = λ z. ltb-true _ _ t }
-fair-order (Shift d x s) m r seven ten t = record { number = λ h. h; item = ten; small = λ z. ltb-true _ _ t }
-fair-order (Compose d x f) m r seven ten t = record { number = λ h. h; item = ten; small = λ z. tt }
-fair-order (Open x) m r seven ten t = record { number = λ h. h; item = ten; small = λ z. tt }
+small-of : (o : Order) (m : Machine) → takesSmall o m ≡ true → TakesSmall o m
+small-of (Decompose d x l) m t y decomposed = ltb-true _ _ t
+small-of (Convert d x f) m t y converted = ltb-true _ _ t
+small-of (Shift d x s) m t y shifted = ltb-true _ _ t
+
+not-number : {o : Order} {r : ℕ} → (r ≡ 7 → ⊥) → RefusedNumber o r → ⊥
+not-number h seven = h refl
 
 unlike : (r n : ℕ) → not (eqb r n) ≡ true → r ≡ n → ⊥
 unlike r n t = eqb-false r n (not-true (eqb r n) t)
 
 -- no order is refused with 7 or 10, and the numbers are small, also where an order is refused
-unfoldable pub fairly : List Entry → Machine → (Place → List ℕ) → Tapes → Bool
+unfoldable pub fairly : List (Entry orders) → Machine → (Place → List ℕ) → Tapes → Bool
 fairly [] m c T = true
 fairly (e ∷ es) m c T =
     let o = outcome e m T c in
     not (eqb (o .refusal) 7)
-    && (not (eqb (o .refusal) 10) && (takesSmall (e .order) m && fairly es (o .machine) (o .channels) T))
+    && (not (eqb (o .refusal) 10) && (takesSmall (e .act) m && fairly es (o .state) (o .channels) T))
 
-pub fair-of : (es : List Entry) (m : Machine) (c : Place → List ℕ) (T : Tapes) → fairly es m c T ≡ true → FairFrom es m c T
+pub fair-of : (es : List (Entry orders)) (m : Machine) (c : Place → List ℕ) (T : Tapes) → fairly es m c T ≡ true → FairFrom es m c T
 unfolding fairly
-fair-of [] m c T t = done
+fair-of [] m c T t = jobs.FairFrom.done
 fair-of (e ∷ es) m c T t =
     let o = outcome e m T c in
-    let seven = and-eq-true-iff (not (eqb (o .refusal) 7)) _ .0 t in
-    let ten = and-eq-true-iff (not (eqb (o .refusal) 10)) _ .0 (seven .1) in
-    let rest = and-eq-true-iff (takesSmall (e .order) m) _ .0 (ten .1) in
-    fair
-    (fair-order (e .order) m (o .refusal) (unlike (o .refusal) 7 (seven .0)) (unlike (o .refusal) 10 (ten .0)) (rest .0))
-    (fair-of es (o .machine) (o .channels) T (rest .1))
+    let not-seven = and-eq-true-iff (not (eqb (o .refusal) 7)) _ .0 t in
+    let ten = and-eq-true-iff (not (eqb (o .refusal) 10)) _ .0 (not-seven .1) in
+    let rest = and-eq-true-iff (takesSmall (e .act) m) _ .0 (ten .1) in
+    jobs.FairFrom.fair
+    (record {
+      number = not-number (unlike (o .refusal) 7 (not-seven .0));
+      item = unlike (o .refusal) 10 (ten .0);
+      small = λ z. small-of (e .act) m (rest .0);
+    })
+    (fair-of es (o .state) (o .channels) T (rest .1))

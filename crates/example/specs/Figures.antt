@@ -1,17 +1,19 @@
--- What the two runs answer and hold, and the change of one pair of hidden tapes. Proofs: proofs/Example.antt and proofs/Image.antt.
+-- What the two runs answer and hold, the change of one pair of hidden tapes, and what it shows of views. The numbers are those of
+-- tests/example. Proofs: proofs/Example.antt, proofs/Image.antt and proofs/Views.antt.
 use Prim.Native.Nat.{ℕ}
 use mathlib.Core.List.{List, [], _∷_, map}
 use Rattle.gate.specs.Places.{Place, next}
 use Rattle.view.specs.Views.{lackedBy}
 use Rattle.machine.specs.Checks.{Tapes}
 use Rattle.machine.specs.Registers.{emptyMachine}
-use Rattle.machine.specs.Step.{Outcome, valueOf}
+use Rattle.machine.specs.Step.{valueOf}
 use Rattle.machine.specs.declared.orders.Order.{Order}
 use Rattle.machine.specs.declared.orders.Order.the-variants.{Add, Compose, Convert, Deal, Decompose, Multiply, Open, Scale, Shift}
 use Rattle.machine.specs.declared.registers.Machine.{Machine}
 use Rattle.machine.specs.declared.registers.Slot.{Slot}
-use Rattle.job.specs.Jobs.{Entry, Job, course}
-use Rattle.job.specs.Secrecy.{Hidden, tapesWith}
+use Rattle.act.specs.Jobs.{Entry, Job, Outcome, View, course, view}
+use Rattle.act.specs.Secrecy.{Hidden, tapesWith}
+use Rattle.protocol.specs.Orders.{Seen, column, orders}
 use Rattle.example.specs.Example.{T}
 
 -- 01, "The nine orders": the number of each kind
@@ -36,12 +38,12 @@ pub record Line : Type 0 where
 abbrev line : (kind refusal value gates : ℕ) → Line
 line kind refusal value gates = record { kind = kind; refusal = refusal; value = value; gates = gates }
 
-unfoldable pub linesFrom : List Entry → List Outcome → List Line
+unfoldable pub linesFrom : List (Entry orders) → List (Outcome Machine) → List Line
 linesFrom [] os = []
 linesFrom (e ∷ es) [] = []
-linesFrom (e ∷ es) (o ∷ os) = line (kindNumber (e .order)) (o .refusal) (o .value) (o .gates) ∷ linesFrom es os
+linesFrom (e ∷ es) (o ∷ os) = line (kindNumber (e .act)) (o .refusal) (o .value) (o .gates) ∷ linesFrom es os
 
-abbrev pub lines : Job → Tapes → List Line
+abbrev pub lines : Job orders → Tapes → List Line
 lines J T = linesFrom (J .entries) (course J T)
 
 -- the lines of either run: every kind is accepted, one opening meets 3 and one shift 9
@@ -60,15 +62,23 @@ table =
     ∷ line 7 0 0 36
     ∷ line 8 0 0 6
     ∷ line 9 0 1 0
+    ∷ line 5 0 0 10
+    ∷ line 9 0 4 0
     ∷ []
 
 -- the values of the 16 registers after the last order
-unfoldable pub valuesFrom : Machine → List Outcome → List ℕ
+unfoldable pub valuesFrom : Machine → List (Outcome Machine) → List ℕ
 valuesFrom m [] = map (λ (s : Slot). valueOf (s .reg)) (m .slots)
-valuesFrom m (o ∷ os) = valuesFrom (o .machine) os
+valuesFrom m (o ∷ os) = valuesFrom (o .state) os
 
-abbrev pub values : Job → Tapes → List ℕ
+abbrev pub values : Job orders → Tapes → List ℕ
 values J T = valuesFrom emptyMachine (course J T)
+
+abbrev pub valuesJ : List ℕ
+valuesJ = 5 ∷ 7 ∷ 12 ∷ 1500 ∷ 35 ∷ 5 ∷ 5 ∷ 1 ∷ 5 ∷ 0 ∷ 4 ∷ 0 ∷ 0 ∷ 0 ∷ 0 ∷ 0 ∷ []
+
+abbrev pub valuesK : List ℕ
+valuesK = 4 ∷ 8 ∷ 12 ∷ 1200 ∷ 32 ∷ 4 ∷ 4 ∷ 1 ∷ 4 ∷ 0 ∷ 4 ∷ 0 ∷ 0 ∷ 0 ∷ 0 ∷ 0 ∷ []
 
 -- what party U sees of the tapes of the run of J, and what it does not
 abbrev pub own : Place → List ℕ
@@ -96,5 +106,29 @@ image =
           ∷ 1 ∷ 0 ∷ 1 ∷ 1 ∷ 1 ∷ 1 ∷ 1 ∷ 1 ∷ 0 ∷ 0 ∷ 0 ∷ 1 ∷ 1 ∷ 0 ∷ 0 ∷ 0 ∷ 0
           ∷ 0 ∷ 0 ∷ 1 ∷ 1 ∷ 1 ∷ 1 ∷ 0 ∷ 0 ∷ 0 ∷ 0 ∷ 0 ∷ 1 ∷ 0 ∷ 1 ∷ 0 ∷ 0 ∷ 0 ∷ 6702 ∷ 400
           ∷ 7886 ∷ 5772 ∷ 4286 ∷ 7264 ∷ 5492 ∷ 840
+          ∷ 1 ∷ 1 ∷ 1 ∷ 0 ∷ 0 ∷ 1 ∷ 1 ∷ 1 ∷ 0 ∷ 1
           ∷ 18446744073709551615 ∷ 0 ∷ [];
     }
+
+-- what party U lacks after each order: the third sub-share of every register, and the channel on which it neither sends nor receives
+abbrev pub lackedShares : Place → Job orders → Tapes → List (List ℕ)
+lackedShares U J T = map (λ (o : Outcome Machine). column (o .state) (lackedBy U)) (course J T)
+
+abbrev pub lackedChannels : Place → Job orders → Tapes → List (List ℕ)
+lackedChannels U J T = map (λ (o : Outcome Machine). o .channels (lackedBy U)) (course J T)
+
+-- a view without the words received
+abbrev pub withoutReceived : View Seen → View Seen
+withoutReceived v = view (v .seen) (v .sends) [] (v .refusal) (v .value) (v .gates)
+
+-- mask tape 0 with another item at one gate of the shift: party 1, which lacks it, receives one other word, and sees nothing else of it
+unfoldable pub other : List ℕ
+other =
+    975
+    ∷ 1 ∷ 0 ∷ 0 ∷ 1 ∷ 1 ∷ 1 ∷ 0 ∷ 0 ∷ 0 ∷ 0
+    ∷ 1 ∷ 1753981654 ∷ 210564253 ∷ 965626409 ∷ 24672076
+    ∷ 1 ∷ 0 ∷ 0 ∷ 1 ∷ 1 ∷ 1 ∷ 1 ∷ 1 ∷ 0 ∷ 1 ∷ 0 ∷ 1 ∷ 1 ∷ 1 ∷ 0 ∷ 1 ∷ 0
+    ∷ 1 ∷ 1 ∷ 1 ∷ 1 ∷ 0 ∷ 1 ∷ 1 ∷ 0 ∷ 1 ∷ 1 ∷ 1 ∷ 1 ∷ 1 ∷ 1 ∷ 0 ∷ 0 ∷ 0 ∷ 6702 ∷ 400
+    ∷ 7886 ∷ 5772 ∷ 4286 ∷ 7264 ∷ 5492 ∷ 840
+    ∷ 1 ∷ 1 ∷ 1 ∷ 0 ∷ 0 ∷ 1 ∷ 1 ∷ 1 ∷ 0 ∷ 1
+    ∷ 18446744073709551615 ∷ 0 ∷ []

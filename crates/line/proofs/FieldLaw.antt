@@ -46,7 +46,7 @@ fit-true : {f : List ℕ} → Fit f → fits f ≡ true
 unfolding fits
 fit-true {f} h = both-true (h .digits) (both-true (le-leb _ _ (h .few)) (lt-ltb _ _ (h .below)))
 
-true-fit : (f : List ℕ) → fits f ≡ true → Fit f
+pub true-fit : (f : List ℕ) → fits f ≡ true → Fit f
 unfolding fits
 true-fit f h =
     let bounds : (leb (length f) 20 && ltb (numberFrom 0 f) (2 ^ 64)) ≡ true = right-true (allDigits f) _ h in

@@ -4,4 +4,5 @@ pub mod StepLaw
 pub mod LineLaw
 pub mod DecimalLaw
 pub mod PrintLaw
+pub mod ItemLaw
 pub mod Theorems

@@ -25,6 +25,7 @@ use Rattle.line.specs.Theorems as theorem
 use Rattle.line.specs.declared.readings.Reading.{Reading}
 use Rattle.line.proofs.DecimalLaw as decimals
 use Rattle.line.proofs.FieldLaw.{split}
+use Rattle.line.proofs.ItemLaw as items
 use Rattle.line.proofs.LineLaw as lines
 use Rattle.line.proofs.ReadLaw as readings
 
@@ -75,6 +76,9 @@ at-most-20 = decimals.at-most-20
 
 pub no-leading-zero : theorem.NoLeadingZero
 no-leading-zero = decimals.no-leading-zero
+
+pub items-below : theorem.ItemsBelow
+items-below = items.items-below
 
 pub figures : theorem.Figures
 unfolding commandOf linesOf fieldsFrom numbersOf numberOf fits allDigits numberFrom withNumbers withOne withThree ofKind printed decimal decimalBy

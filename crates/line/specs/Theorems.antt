@@ -9,7 +9,8 @@ use Rattle.machine.specs.declared.orders.Order.the-variants as order
 use Rattle.line.specs.Lines.{commandOf, lineIn, linesOf, numberOf}
 use Rattle.line.specs.Printed.{decimal, printed}
 use Rattle.line.specs.Readings.{commandIn, read, readOn}
-use Rattle.line.specs.declared.commands.Command.the-variants.{Dealer, Order, Unreadable}
+use Rattle.line.specs.declared.commands.Command.{Command}
+use Rattle.line.specs.declared.commands.Command.the-variants.{Dealer, Masks, Order, Unreadable}
 use Rattle.line.specs.declared.readings.Reading.{Reading}
 
 -- read byte by byte, a line says what its fields say
@@ -46,6 +47,16 @@ AtMost20 = (n : ℕ) → n < 2 ^ 64 → (1 ≤ length (decimal n)) × (length (d
 -- and no zero in front
 abbrev pub NoLeadingZero : Type 0
 NoLeadingZero = (n : ℕ) → 1 ≤ n → 49 ≤ getD (decimal n) 0 0
+
+-- no "number of 2^64 or more": the items of a tape line are 64-bit words
+abbrev pub ItemsFit : Command → Type 0
+ItemsFit (Masks t₀ t₁ t₂) = (t₀ < 2 ^ 64) × (t₁ < 2 ^ 64) × (t₂ < 2 ^ 64)
+ItemsFit (Dealer item) = item < 2 ^ 64
+ItemsFit (Order o) = Unit {0}
+ItemsFit Unreadable = Unit {0}
+
+abbrev pub ItemsBelow : Type 0
+ItemsBelow = (bs : List ℕ) → ItemsFit (commandOf bs)
 
 -- "1844674407370955161", the digits of 2^64 but for the last
 abbrev pub tenths : List ℕ

@@ -31,6 +31,10 @@ pub other-false : (a b : Bool) → a || b ≡ false → b ≡ false
 other-false true b h = cc
 other-false false b h = h
 
+-- a check of two tests that is not met
+pub neither : (a b : Bool) → a || b ≡ false → (a ≡ false) × (b ≡ false)
+neither a b h = (one-false a b h, other-false a b h)
+
 shares-below : (m : ℕ) (x : Sharing) → sharesBelow m x ≡ true → InRange m x
 shares-below m x h =
     let rest = right-true (ltb (x .s0) m) (ltb (x .s1) m && ltb (x .s2) m) h in

@@ -1,3 +1,4 @@
 pub mod Figures
 pub mod KindLaw
 pub mod SlotLaw
+pub mod WrittenLaw

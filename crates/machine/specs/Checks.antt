@@ -125,9 +125,12 @@ lengthChecks (computes C d x y kind) p len = gateChecks (gatesOf C) p len
 lengthChecks (opens x) p len =
     check (uneven (len .channels)) 8 ∷ check (tooFew (len .channels) (p .channelsAt) 1) 11 ∷ []
 
--- what is left of the tapes, from the record's positions on
+-- what is left of the tapes from two positions on, and from the record's
+abbrev pub leftFrom : (masksAt dealerAt : ℕ) → Tapes → Tapes
+leftFrom masksAt dealerAt T = record { masks = tabled (λ i. drop masksAt (T .masks i)); dealer = drop dealerAt (T .dealer) }
+
 abbrev pub leftOf : Public → Tapes → Tapes
-leftOf p T = record { masks = tabled (λ i. drop (p .masksAt) (T .masks i)); dealer = drop (p .dealerAt) (T .dealer) }
+leftOf p T = leftFrom (p .masksAt) (p .dealerAt) T
 
 -- "10 .. some item it would take is out of range": the items of a tape against the gates' moduli
 unfoldable pub anyOutside : List ℕ → List ℕ → Bool

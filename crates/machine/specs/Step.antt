@@ -82,15 +82,17 @@ computed C d x y kind m left c =
     (tabled (λ i. written (m .«channels_at») (channelled C X Y (left .masks) i) (c i)))
 
 -- 9. "unit i sends sub-share i+1; the answer is the value. One word a wire, no gate"
+abbrev pub openingWord : ℕ → Machine → Place → ℕ
+openingWord x m i = parts (sharesOf (registerAt m x)) (next i)
+
 unfoldable pub opened : ℕ → Machine → (Place → List ℕ) → Outcome
 opened x m c =
-    let X = parts (sharesOf (registerAt m x)) in
     record {
       machine = moved m 0 1 0;
       refusal = 0;
       value = valueOf (registerAt m x);
       gates = 0;
-      channels = tabled (λ i. written (m .«channels_at») (X (next i) ∷ []) (c i));
+      channels = tabled (λ i. written (m .«channels_at») (openingWord x m i ∷ []) (c i));
     }
 
 -- an accepted order, with what is left of the tapes

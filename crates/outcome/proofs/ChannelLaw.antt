@@ -3,23 +3,24 @@ use Prim.Native.Nat.{ℕ, _+_, _-_, _≤_, _<_}
 use mathlib.Core.Bool.{false}
 use mathlib.Core.List.{List, [], _∷_}
 use mathlib.Core.Path.{_≡_, ap, refl, sym, _∙_}
-use native.Mathlib.Nat.{add-zero}
 use native.Mathlib.Omega.{arith}
 use lib.Dec.{ltb}
-use lib.ListN.{List·getD-append, getD, length, length-append, length-drop, length-take, take, take-append-drop}
+use lib.ListN.{List·getD-append, getD, length, length-append, length-drop, length-take, take}
 use lib.Seq.{getD-append-add, getD-drop, getD-take}
 use borrow.Author.Tests.{ltb-false}
-use Rattle.gate.specs.Places.{Place, next, p0}
+use Rattle.gate.specs.Places.{Place, p0}
 use Rattle.gate.proofs.PlaceLaw.{tabled-at}
 use Rattle.circuit.specs.Circuits.{Circuit, channelled, gatesOf, starts}
 use Rattle.circuit.proofs.RunLaw.{length-sent}
 use Rattle.machine.specs.Checks.{Tapes, lengthChecks, uneven}
 use Rattle.machine.specs.Registers.{publicOf}
-use Rattle.machine.specs.Step.{computed, dealt, lengthsOf, opened, performed, written}
+use Rattle.machine.specs.Step.{computed, dealt, lengthsOf, opened, openingWord, performed, written}
 use Rattle.machine.specs.Work.{Work, adjusts, computes, deals, opens}
 use Rattle.machine.specs.declared.registers.Machine.{Machine}
+use Rattle.machine.proofs.KindLaw.{neither}
+use Rattle.machine.proofs.WrittenLaw.{empty-of, nothing-written}
 use Rattle.outcome.specs.Theorems.{wordsOf}
-use Rattle.outcome.proofs.CheckLaw.{Passed, neither}
+use Rattle.outcome.proofs.CheckLaw.{Passed}
 use Rattle.outcome.proofs.RegisterLaw.{sharesAt}
 use Rattle.outcome.proofs.WorkLaw.{Light, even}
 
@@ -49,10 +50,6 @@ written-stands at n ws c long room =
           ∙ ap (λ (i : ℕ). getD c i 0) there,
     )
 
-nothing-written : (at : ℕ) (ws c : List ℕ) → length ws ≡ 0 → written at ws c ≡ c
-nothing-written at [] c none = rw (add-zero at) (take-append-drop at c)
-nothing-written at (w ∷ ws) c none = absurd (omega arith)
-
 module _ (m : Machine) (T left : Tapes) (c : Place → List ℕ) (i : Place) where
   abbrev at : ℕ
   at = m .«channels_at»
@@ -77,7 +74,8 @@ module _ (m : Machine) (T left : Tapes) (c : Place → List ℕ) (i : Place) whe
   channels-kept (adjusts C d x y kind) none h =
       rw (
         tabled-at (λ j. written at (channelled C (sharesAt m x) (sharesAt m y) (left .masks) j) (c j)) i,
-        nothing-written at (wordsFrom C x y) (c i) (length-words C x y ∙ none),
+        empty-of (wordsFrom C x y) (length-words C x y ∙ none),
+        nothing-written at (c i),
       )
       (stands at (gatesOf C) (c i))
   channels-kept (computes C d x y kind) l h =
@@ -85,5 +83,5 @@ module _ (m : Machine) (T left : Tapes) (c : Place → List ℕ) (i : Place) whe
       (written-stands at (gatesOf C) (wordsFrom C x y) (c i) (length-words C x y)
       (room (gatesOf C) (neither (uneven (lengthsOf T c .masks)) _ (h .0) .1) (h .1 .1 .0)))
   channels-kept (opens x) l h =
-      rw (tabled-at (λ j. written at (sharesAt m x (next j) ∷ []) (c j)) i)
-      (written-stands at 1 (sharesAt m x (next i) ∷ []) (c i) refl (room 1 (h .0) (h .1 .0)))
+      rw (tabled-at (λ j. written at (openingWord x m j ∷ []) (c j)) i)
+      (written-stands at 1 (openingWord x m i ∷ []) (c i) refl (room 1 (h .0) (h .1 .0)))

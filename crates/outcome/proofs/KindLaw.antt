@@ -19,6 +19,7 @@ use Rattle.gate.proofs.PlaceLaw.{each}
 use Rattle.circuit.specs.Bits.{exclusive}
 use Rattle.circuit.specs.Circuits.{gatesOf, result}
 use Rattle.circuit.specs.Orders.{addition, composition, conversion, decomposition, multiplication, scaling, shifting}
+use Rattle.machine.proofs.KindLaw.{neither}
 use Rattle.value.specs.Values.{lifted, roundedUp}
 use Rattle.value.proofs.Counts.{decompose-count, shift-count}
 use Rattle.value.proofs.ModulusLaw.{modulus-pos}
@@ -29,7 +30,7 @@ use Rattle.machine.specs.Checks.{aNumber, check, isBits, isEmpty, isNumber, noR
 use Rattle.machine.specs.Registers.{Kind, bits, countAt, empty, number, widthAt}
 use Rattle.machine.specs.Step.{dealtShares}
 use Rattle.machine.specs.Work.{numberKind}
-use Rattle.outcome.proofs.CheckLaw.{Passed, neither}
+use Rattle.outcome.proofs.CheckLaw.{Passed}
 use Rattle.outcome.proofs.RegisterLaw.{Fits, valueAs}
 
 -- a kind of number, of a ring of width e

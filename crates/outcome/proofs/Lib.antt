@@ -1,8 +1,8 @@
-pub mod CheckLaw
-pub mod RegisterLaw
-pub mod KindLaw
-pub mod WorkLaw
+pub mod AcceptLaw
 pub mod ChannelLaw
+pub mod CheckLaw
+pub mod KindLaw
+pub mod OrderLaw
+pub mod RegisterLaw
 pub mod Theorems
-pub mod Same
-pub mod Local
+pub mod WorkLaw

@@ -1,7 +1,7 @@
 -- Registers by what is public of them and their sub-shares: kinds, values, soundness.
 use Prim.Native.Nat.{ℕ, zero, suc, _<_, _≤_, _^_}
 use mathlib.Core.Bool.{Bool, and-eq-true-iff, true, _&&_}
-use mathlib.Core.List.{List, [], _∷_}
+use mathlib.Core.List.{List, [], _∷_, map}
 use mathlib.Core.Path.{_≡_, ap, refl, sym, _∙_}
 use lib.ListN.{length, set}
 use lib.Seq.{getD-set-other, getD-set-same}
@@ -19,6 +19,12 @@ use Rattle.machine.specs.declared.registers.Register.the-variants.{Bits, Empty,
 use Rattle.machine.specs.declared.registers.Slot.{Slot}
 use Rattle.machine.proofs.SlotLaw.{kind-at, slot-sound}
 use Rattle.outcome.specs.Theorems.{valueAt}
+
+-- storing in a mapped list
+pub map-set : {A B : Type 0} (f : A → B) (l : List A) (k : ℕ) (a : A) → map f (set l k a) ≡ set (map f l) k (f a)
+map-set f [] k a = refl
+map-set f (x ∷ l) zero a = refl
+map-set f (x ∷ l) (suc k) a = ap (λ t. f x ∷ t) (map-set f l k a)
 
 -- the sub-shares of register k
 abbrev pub sharesAt : Machine → ℕ → Place → ℕ

@@ -15,24 +15,25 @@ use Rattle.ring.specs.declared.rings.Ring.{Ring}
 use Rattle.ring.specs.declared.rings.Ring.the-variants.{R13, R31, R61}
 use Rattle.gate.specs.Places.{Place}
 use Rattle.circuit.specs.Orders.{addition, multiplication, scaling}
+use Rattle.machine.proofs.KindLaw.{neither}
 use Rattle.value.proofs.Counts.{compose-count, convert-count}
 use Rattle.value.proofs.ModulusLaw.{value-lt}
-use Rattle.machine.specs.Checks.{Check, Lengths, Tapes, anyAbove15, badItem, check, firstMet, kindChecks, leftOf, lengthChecks, named, noRing, publicChecks}
+use Rattle.machine.specs.Checks.{Check, Tapes, anyAbove15, badItem, check, firstMet, kindChecks, leftOf, named, noRing, publicChecks}
 use Rattle.machine.specs.Registers.{Kind, Public, bits, countAt, empty, kindAt, kindOf, million, publicOf, registerAt, sound, widthAt}
 use Rattle.machine.specs.Step.{Outcome, checks, computed, dealt, lengthsOf, opened, performed, step}
-use Rattle.machine.specs.Work.{deals, numberKind, workOf}
+use Rattle.machine.specs.Work.{Work, adjusts, computes, deals, numberKind, opens, workOf}
 use Rattle.machine.specs.declared.orders.Order.{Order}
 use Rattle.machine.specs.declared.orders.Order.the-variants.{Add, Compose, Convert, Deal, Decompose, Multiply, Open, Scale, Shift}
 use Rattle.machine.specs.declared.registers.Machine.{Machine}
 use Rattle.machine.specs.declared.registers.Slot.{Slot}
-use Rattle.party.specs.Steps.{gatesIn, withoutNumber}
-use Rattle.job.specs.Jobs.{RefusedNumber, isOpening}
-use Rattle.outcome.specs.Theorems.{AddLeaves, ChannelsStand, ComposeLeaves, ConvertLeaves, ConvertLeavesAll, DealAccepted, DealLeaves, DealRefusedNumber, DecomposeLeaves, DecomposeLeavesAll, GatesAnswered, GatesCounted, KeepsSound, KindLeft, MultiplyLeaves, OpensValue, OthersStand, PositionsRise, PublicFields, PublicRefusal, RoundTrip, ScaleLeaves, ShiftLeaves, ShiftLeavesAll, Unchanged, ValueAnswered, destination, gatesFor, kindLeft, valueAt, wordsOf}
+use Rattle.outcome.specs.Theorems.{AddLeaves, ChannelsStand, ComposeLeaves, ConvertLeaves, ConvertLeavesAll, DealAccepted, DealLeaves, DealRefusedNumber, DecomposeLeaves, DecomposeLeavesAll, GatesAnswered, GatesCounted, KeepsSound, KindLeft, MultiplyLeaves, OpensValue, OthersStand, PositionsRise, PublicRefusal, RoundTrip, ScaleLeaves, ShiftLeaves, ShiftLeavesAll, Unchanged, ValueAnswered, destination, gatesFor, gatesIn, isOpening, kindLeft, valueAt, wordsOf}
 use Rattle.outcome.proofs.ChannelLaw.{Stands, channels-kept, stands}
-use Rattle.outcome.proofs.CheckLaw.{Accepted, Passed, accepted, either, last-aside, neither, refusal-is, refused-is}
-use Rattle.outcome.proofs.KindLaw.{add-fits, add-value, compose-fits, compose-value, convert-fits, convert-value, convert-value-all, count-in-range, deal-fits, deal-value, decompose-fits, decompose-gates, decompose-value, decompose-value-all, multiply-fits, multiply-value, scale-fits, scale-value, shift-fits, shift-gates, shift-value, shift-value-all, zero-below}
+use Rattle.outcome.proofs.AcceptLaw.{Accepted, accepted, either, refusal-is, refused-is}
+use Rattle.outcome.proofs.CheckLaw.{Passed, last-aside}
+use Rattle.outcome.proofs.KindLaw.{add-fits, add-value, compose-fits, compose-value, convert-fits, convert-value, convert-value-all, count-in-range, deal-fits, deal-value, decompose-fits, decompose-gates, decompose-value, decompose-value-all, multiply-fits, multiply-value, scale-fits, scale-value, shift-fits, shift-gates, shift-value, shift-value-all}
+use Rattle.outcome.proofs.OrderLaw.{light}
 use Rattle.outcome.proofs.RegisterLaw.{register-fits, sharesAt, sound-parts, value-at}
-use Rattle.outcome.proofs.WorkLaw.{FitsIn, computed-leaves, dealt-leaves, gates-are, light, others-kept, performed-sound, public-after, publicBy, rises, slots-kept, target-is}
+use Rattle.outcome.proofs.WorkLaw.{FitsIn, computed-leaves, dealt-leaves, gates-are, others-kept, performed-sound, public-after, publicBy, rises, slots-kept}
 
 pub unchanged : Unchanged
 unchanged = refused-is
@@ -45,34 +46,6 @@ public-refusal o m T c is-sound not-item =
     let item : Check = check (badItem (workOf o p) (leftOf p T)) 10 in
     let first : step o m T c .refusal ≡ firstMet (public ++ (item ∷ [])) = refusal-is o m T c ∙ rw is-sound in
     first ∙ last-aside public (item .met) 10 (λ e. not-item (first ∙ e))
-
-number-apart : (a b x y : Bool) (rest : ℕ) → (b ≡ false → y ≡ false) → (cond a 2 (cond b 5 (cond x 7 rest)) ≡ 7 → ⊥)
-    → cond a 2 (cond b 5 (cond x 7 rest)) ≡ cond a 2 (cond b 5 (cond y 7 rest))
-number-apart true b x y rest h p = refl
-number-apart false true x y rest h p = refl
-number-apart false false true y rest h p = absurd (p refl)
-number-apart false false false y rest h p = rw (h refl)
-
--- a deal not refused for its number: 0 in its place is below p too, wherever 5 does not refuse
-pub number-aside : (o : Order) (p : Public) (len : Lengths) → (RefusedNumber o (firstMet (publicChecks o p len)) → ⊥)
-    → firstMet (publicChecks o p len) ≡ firstMet (publicChecks (withoutNumber o) p len)
-unfolding publicChecks firstMet
-number-aside (Deal d e v) p len h =
-    number-apart (anyAbove15 (d ∷ [])) (noRing (ringOf e)) (leb (modulus e) v) (leb (modulus e) 0)
-    (firstMet (lengthChecks (deals d e v) p len)) (zero-below e) h
-number-aside (Add d x y) p len h = refl
-number-aside (Scale d x c) p len h = refl
-number-aside (Multiply d x y) p len h = refl
-number-aside (Decompose d x l) p len h = refl
-number-aside (Convert d x f) p len h = refl
-number-aside (Shift d x s) p len h = refl
-number-aside (Compose d x f) p len h = refl
-number-aside (Open x) p len h = refl
-
-pub public-fields : PublicFields
-public-fields o m T c is-sound not-item not-number =
-    let public = public-refusal o m T c is-sound not-item in
-    public ∙ number-aside o (publicOf m) (lengthsOf T c) (λ h. not-number (rw public h))
 
 ring-named : (r : Ring) → ringOf (widthOf r) ≡ Named r
 unfolding ringOf
@@ -171,7 +144,7 @@ gates-counted o m T c ok = gates-answered o m T c ok ∙ counted o (publicOf m) 
 pub others-stand : OthersStand
 others-stand o m T c k other =
     either o m T c (λ s. registerAt (s .machine) k ≡ registerAt m k)
-    (λ a. others-kept m (leftOf (publicOf m) T) c (workOf o (publicOf m)) k (λ e. other (e ∙ target-is o (publicOf m))))
+    (λ a. others-kept m (leftOf (publicOf m) T) c (workOf o (publicOf m)) k other)
     refl
 
 pub channels-stand : ChannelsStand
@@ -181,22 +154,16 @@ channels-stand o m T c i =
     (λ a. channels-kept m T (leftOf (publicOf m) T) c i (workOf o (publicOf m)) (light o (publicOf m)) (a .lengths))
     (stands (m .«channels_at») words (c i))
 
-no-value : (o : Order) (m : Machine) (left : Tapes) (c : Place → List ℕ) → isOpening o ≡ false
-    → performed (workOf o (publicOf m)) m left c .value ≡ 0
+no-value : (w : Work) (m : Machine) (left : Tapes) (c : Place → List ℕ) → isOpening w ≡ false → performed w m left c .value ≡ 0
 unfolding dealt computed
-no-value (Deal d e v) m left c h = refl
-no-value (Add d x y) m left c h = refl
-no-value (Scale d x k) m left c h = refl
-no-value (Multiply d x y) m left c h = refl
-no-value (Decompose d x l) m left c h = refl
-no-value (Convert d x f) m left c h = refl
-no-value (Shift d x s) m left c h = refl
-no-value (Compose d x f) m left c h = refl
-no-value (Open x) m left c h = absurd (true≢false h)
+no-value (deals d e v) m left c h = refl
+no-value (adjusts C d x y kind) m left c h = refl
+no-value (computes C d x y kind) m left c h = refl
+no-value (opens x) m left c h = absurd (true≢false h)
 
 pub value-answered : ValueAnswered
 value-answered o m T c h =
-    either o m T c (λ s. s .value ≡ 0) (λ a. no-value o m (leftOf (publicOf m) T) c h) refl
+    either o m T c (λ s. s .value ≡ 0) (λ a. no-value (workOf o (publicOf m)) m (leftOf (publicOf m) T) c h) refl
 
 pub opens-value : OpensValue
 unfolding opened
@@ -218,7 +185,7 @@ module _ (p : Public) (sixteen : length (p .kinds) ≡ 16) where
   kind-put : (d : ℕ) (ks : List ℕ) (kind : Kind) → anyAbove15 (d ∷ ks) ≡ false → getD (set (p .kinds) d kind) d empty ≡ kind
   kind-put d ks kind h = getD-set-same (p .kinds) d kind empty (in-reach d ks _ h sixteen)
 
-  kind-by : (o : Order) → anyAbove15 (named o) ≡ false → kindAt (publicBy (workOf o p) p) (destination o) ≡ kindLeft (workOf o p)
+  kind-by : (o : Order) → anyAbove15 (named o) ≡ false → kindAt (publicBy (workOf o p) p) (destination (workOf o p)) ≡ kindLeft (workOf o p)
   kind-by (Deal d e v) h = kind-put d [] (numberKind (ringOf e)) h
   kind-by (Add d x y) h = kind-put d (x ∷ y ∷ []) (kindAt p x) h
   kind-by (Scale d x c) h = kind-put d (x ∷ []) (kindAt p x) h
@@ -231,7 +198,7 @@ module _ (p : Public) (sixteen : length (p .kinds) ≡ 16) where
 
 pub kind-left : KindLeft
 kind-left o m T c ok sixteen =
-    ap (λ (p : Public). kindAt p (destination o)) (step-public o m T c ok)
+    ap (λ (p : Public). kindAt p (destination (workOf o (publicOf m)))) (step-public o m T c ok)
     ∙ kind-by (publicOf m) (length-map (m .slots) (λ (s : Slot). kindOf (s .reg)) ∙ sixteen) o (accepted o m T c ok .registers)
 
 pub deal-leaves : DealLeaves

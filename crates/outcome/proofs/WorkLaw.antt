@@ -5,44 +5,23 @@ use mathlib.Core.List.{List}
 use mathlib.Core.Path.{_≡_, ap, refl, sym, _∙_}
 use native.Mathlib.Omega.{arith}
 use lib.Dec.{eqb}
-use lib.ListN.{getD, length, length-set}
+use lib.ListN.{getD, length, length-set, set}
 use borrow.Author.Tests.{eqb-true, ltb-false, not-false}
 use Rattle.ring.specs.Rings.{modulus, ringOf}
 use Rattle.gate.specs.Places.{Place, p0, p1, p2, parts, sharing}
+use Rattle.gate.specs.declared.sharing.Sharing.{Sharing}
 use Rattle.gate.proofs.PlaceLaw.{each}
 use Rattle.circuit.specs.Circuits.{Circuit, gatesOf, result}
-use Rattle.circuit.specs.Orders.{addition, scaling}
 use Rattle.machine.specs.Checks.{Tapes, lengthChecks, uneven}
-use Rattle.machine.specs.Registers.{Kind, Public, million, publicOf, registerAt, registerOf, sound, withRegister}
+use Rattle.machine.specs.Registers.{Kind, Public, bits, empty, kindOf, million, number, publicOf, registerAt, registerOf, slot, sound, withRegister}
 use Rattle.machine.specs.Step.{computed, dealt, dealtShares, lengthsOf, moved, opened, performed, valueOf}
-use Rattle.machine.specs.Work.{Work, adjusts, computes, deals, numberKind, opens, workOf}
-use Rattle.machine.specs.declared.orders.Order.{Order}
-use Rattle.machine.specs.declared.orders.Order.the-variants.{Add, Compose, Convert, Deal, Decompose, Multiply, Open, Scale, Shift}
+use Rattle.machine.specs.Work.{Work, adjusts, computes, deals, numberKind, opens}
 use Rattle.machine.specs.declared.registers.Machine.{Machine}
-use Rattle.party.specs.Own.{ownComputed, ownPerformed, publicAfter}
-use Rattle.party.specs.Steps.{gatesIn}
-use Rattle.party.proofs.Local.{step-local}
-use Rattle.outcome.specs.Theorems.{destination, itemsOf, valueAt, wordsOf}
-use Rattle.outcome.proofs.CheckLaw.{Passed, neither}
-use Rattle.outcome.proofs.RegisterLaw.{Fits, Sound, parts-sound, register-other, register-same, sharesAt, sound-with, value-as, valueAs}
-
--- the register that it writes: 16 where it writes none
-abbrev target : Work → ℕ
-target (deals d e v) = d
-target (adjusts C d x y kind) = d
-target (computes C d x y kind) = d
-target (opens x) = 16
-
-pub target-is : (o : Order) (p : Public) → target (workOf o p) ≡ destination o
-target-is (Deal d e v) p = refl
-target-is (Add d x y) p = refl
-target-is (Scale d x c) p = refl
-target-is (Multiply d x y) p = refl
-target-is (Decompose d x l) p = refl
-target-is (Convert d x f) p = refl
-target-is (Shift d x s) p = refl
-target-is (Compose d x f) p = refl
-target-is (Open x) p = refl
+use Rattle.machine.specs.declared.registers.Slot.{Slot}
+use Rattle.machine.proofs.KindLaw.{neither}
+use Rattle.outcome.specs.Theorems.{destination, gatesIn, itemsOf, valueAt, wordsOf}
+use Rattle.outcome.proofs.CheckLaw.{Passed}
+use Rattle.outcome.proofs.RegisterLaw.{Fits, Sound, map-set, parts-sound, register-other, register-same, sharesAt, sound-with, value-as, valueAs}
 
 -- the sub-shares that it leaves there, of a deal and of a circuit; and that they are in range
 abbrev dealtBy : (e v : ℕ) → Tapes → Place → ℕ
@@ -64,19 +43,16 @@ Light (adjusts C d x y kind) = gatesOf C ≡ 0
 Light (computes C d x y kind) = Unit {0}
 Light (opens x) = Unit {0}
 
-pub light : (o : Order) (p : Public) → Light (workOf o p)
-unfolding addition scaling
-light (Deal d e v) p = tt
-light (Add d x y) p = refl
-light (Scale d x c) p = refl
-light (Multiply d x y) p = tt
-light (Decompose d x l) p = tt
-light (Convert d x f) p = tt
-light (Shift d x s) p = tt
-light (Compose d x f) p = tt
-light (Open x) p = tt
-
 -- what is public afterwards
+abbrev publicAfter : Public → (d : ℕ) → Kind → (gates words items : ℕ) → Public
+publicAfter p d kind gates words items =
+    record {
+      kinds = set (p .kinds) d kind;
+      masksAt = p .masksAt + gates;
+      channelsAt = p .channelsAt + words;
+      dealerAt = p .dealerAt + items;
+    }
+
 abbrev pub publicBy : Work → Public → Public
 publicBy (deals d e v) p = publicAfter p d (numberKind (ringOf e)) 0 0 2
 publicBy (adjusts C d x y kind) p = publicAfter p d kind (gatesOf C) (gatesOf C) 0
@@ -101,6 +77,29 @@ even n h =
     let one = eqb-true _ _ (not-false _ (first .0)) in
     let two = eqb-true _ _ (not-false _ (second .0)) in
     record { same = each (λ i. n i ≡ n p0) refl (sym one) (sym two ∙ sym one); few = ltb-false _ _ (second .1) }
+
+kind-is : (kind : Kind) (x : Sharing) → kindOf (registerOf kind x) ≡ kind
+kind-is empty x = refl
+kind-is (number r) x = refl
+kind-is (bits l) x = refl
+
+-- what is public of the record with a register of that kind in d
+public-with : (m : Machine) (gates words items d : ℕ) (kind : Kind) (x : Sharing)
+    → publicOf (withRegister (moved m gates words items) d (registerOf kind x)) ≡ publicAfter (publicOf m) d kind gates words items
+unfolding withRegister
+public-with m gates words items d kind x =
+    ap (λ (ks : List Kind). publicAt ks)
+    (map-set (λ (s : Slot). kindOf (s .reg)) (m .slots) d (slot (registerOf kind x))
+    ∙ ap (λ (k : Kind). set (publicOf m .kinds) d k) (kind-is kind x))
+  where
+    publicAt : List Kind → Public
+    publicAt ks =
+        record {
+          kinds = ks;
+          masksAt = m .«masks_at» + gates;
+          channelsAt = m .«channels_at» + words;
+          dealerAt = m .«dealer_at» + items;
+        }
 
 module _ (m : Machine) (left : Tapes) (c : Place → List ℕ) where
   pub rises : (w : Work)
@@ -127,7 +126,7 @@ module _ (m : Machine) (left : Tapes) (c : Place → List ℕ) where
   slots-kept (computes C d x y kind) = length-set (m .slots) d _
   slots-kept (opens x) = refl
 
-  pub others-kept : (w : Work) (k : ℕ) → (k ≡ target w → ⊥) → registerAt (performed w m left c .machine) k ≡ registerAt m k
+  pub others-kept : (w : Work) (k : ℕ) → (k ≡ destination w → ⊥) → registerAt (performed w m left c .machine) k ≡ registerAt m k
   unfolding dealt computed opened registerAt
   others-kept (deals d e v) k h = register-other (moved m 0 0 2) d k _ h
   others-kept (adjusts C d x y kind) k h = register-other (moved m (gatesOf C) (gatesOf C) 0) d k _ h
@@ -135,11 +134,11 @@ module _ (m : Machine) (left : Tapes) (c : Place → List ℕ) where
   others-kept (opens x) k h = refl
 
   pub public-after : (w : Work) → publicOf (performed w m left c .machine) ≡ publicBy w (publicOf m)
-  unfolding ownPerformed ownComputed
-  public-after (deals d e v) = ap (λ o. o .public) (step-local p0 (deals d e v) m left c)
-  public-after (adjusts C d x y kind) = ap (λ o. o .public) (step-local p0 (adjusts C d x y kind) m left c)
-  public-after (computes C d x y kind) = ap (λ o. o .public) (step-local p0 (computes C d x y kind) m left c)
-  public-after (opens x) = ap (λ o. o .public) (step-local p0 (opens x) m left c)
+  unfolding dealt computed opened
+  public-after (deals d e v) = public-with m 0 0 2 d (numberKind (ringOf e)) _
+  public-after (adjusts C d x y kind) = public-with m (gatesOf C) (gatesOf C) 0 d kind _
+  public-after (computes C d x y kind) = public-with m (gatesOf C) (gatesOf C) 0 d kind _
+  public-after (opens x) = refl
 
   -- the value in d
   pub computed-leaves : (C : Circuit) (d x y : ℕ) (kind : Kind) → d < length (m .slots)

@@ -1,3 +1,1 @@
-pub mod Local
-pub mod Same
 pub mod Theorems

@@ -1,6 +1,6 @@
 -- Demands 1 and 2 of the definition of `step`, for every order, record, tape and channel. Proofs: proofs/.
 use Prim.Native.Nat.{ℕ, _+_, _*_, _-_, _/_, _%_, _≤_, _<_, _^_}
-use mathlib.Core.Bool.{false, true}
+use mathlib.Core.Bool.{Bool, false, true}
 use mathlib.Core.List.{List}
 use mathlib.Core.Path.{_≡_}
 use lib.ListN.{getD, length}
@@ -17,8 +17,6 @@ use Rattle.machine.specs.Work.{Work, adjusts, computes, deals, modulusAt, numbe
 use Rattle.machine.specs.declared.orders.Order.{Order}
 use Rattle.machine.specs.declared.orders.Order.the-variants.{Add, Compose, Convert, Deal, Decompose, Multiply, Open, Scale, Shift}
 use Rattle.machine.specs.declared.registers.Machine.{Machine}
-use Rattle.party.specs.Steps.{gatesIn, withoutNumber}
-use Rattle.job.specs.Jobs.{RefusedNumber, isOpening}
 
 -- "A refused order answers value 0 and 0 gates", and record, positions and channels are as they were
 abbrev pub Unchanged : Type 0
@@ -39,14 +37,6 @@ PublicRefusal = (o : Order) (m : Machine) (T : Tapes) (c : Place → List ℕ)
     → (step o m T c .refusal ≡ 10 → ⊥)
     → step o m T c .refusal ≡ firstMet (publicChecks o (publicOf m) (lengthsOf T c))
 
--- "only refusals 1, 7 and 10 look further": apart from 1, 10 and a deal's 7, the refusal goes by what is public, a deal's number put to 0
-abbrev pub PublicFields : Type 0
-PublicFields = (o : Order) (m : Machine) (T : Tapes) (c : Place → List ℕ)
-    → sound m ≡ true
-    → (step o m T c .refusal ≡ 10 → ⊥)
-    → (RefusedNumber o (step o m T c .refusal) → ⊥)
-    → step o m T c .refusal ≡ firstMet (publicChecks (withoutNumber o) (publicOf m) (lengthsOf T c))
-
 -- "Deal: 5 ..; 7 ..; 8 ..; 9 ..; 10 ..": where none is met, nor 1 or 2, a deal is accepted; e is the width of a ring, 13, 31 or 61
 abbrev pub DealAccepted : Type 0
 DealAccepted = (d v : ℕ) (r : Ring) (m : Machine) (T : Tapes) (c : Place → List ℕ)
@@ -65,7 +55,13 @@ DealRefusedNumber = (d e v : ℕ) (m : Machine) (T : Tapes) (c : Place → List 
     → step (Deal d e v) m T c .refusal ≡ 7
     → modulus e ≤ v
 
--- the words that an order writes on each channel, and the dealer's items that it takes
+-- the gates that an order spends, the words that it writes on each channel, and the dealer's items that it takes
+abbrev pub gatesIn : Work → ℕ
+gatesIn (deals d e v) = 0
+gatesIn (adjusts C d x y kind) = gatesOf C
+gatesIn (computes C d x y kind) = gatesOf C
+gatesIn (opens x) = 0
+
 abbrev pub wordsOf : Work → ℕ
 wordsOf (deals d e v) = 0
 wordsOf (adjusts C d x y kind) = gatesOf C
@@ -110,21 +106,16 @@ GatesCounted = (o : Order) (m : Machine) (T : Tapes) (c : Place → List ℕ)
     → step o m T c .gates ≡ gatesFor o (publicOf m)
 
 -- the register that an order writes: 16 where it writes none
-abbrev pub destination : Order → ℕ
-destination (Deal d e v) = d
-destination (Add d x y) = d
-destination (Scale d x c) = d
-destination (Multiply d x y) = d
-destination (Decompose d x l) = d
-destination (Convert d x f) = d
-destination (Shift d x s) = d
-destination (Compose d x f) = d
-destination (Open x) = 16
+abbrev pub destination : Work → ℕ
+destination (deals d e v) = d
+destination (adjusts C d x y kind) = d
+destination (computes C d x y kind) = d
+destination (opens x) = 16
 
 -- every other register stands
 abbrev pub OthersStand : Type 0
 OthersStand = (o : Order) (m : Machine) (T : Tapes) (c : Place → List ℕ) (k : ℕ)
-    → (k ≡ destination o → ⊥)
+    → (k ≡ destination (workOf o (publicOf m)) → ⊥)
     → registerAt (step o m T c .machine) k ≡ registerAt m k
 
 -- "all else there stays": channels keep their lengths, and every word before the position or after the words written
@@ -134,10 +125,16 @@ ChannelsStand = (o : Order) (m : Machine) (T : Tapes) (c : Place → List ℕ) (
     × ((k : ℕ) → k < m .«channels_at» → getD (step o m T c .channels i) k 0 ≡ getD (c i) k 0)
     × ((k : ℕ) → m .«channels_at» + wordsOf (workOf o (publicOf m)) ≤ k → getD (step o m T c .channels i) k 0 ≡ getD (c i) k 0)
 
+abbrev pub isOpening : Work → Bool
+isOpening (deals d e v) = false
+isOpening (adjusts C d x y kind) = false
+isOpening (computes C d x y kind) = false
+isOpening (opens x) = true
+
 -- "An accepted one answers value 0 unless it opens"; a refused order's value and gates are `Unchanged`'s
 abbrev pub ValueAnswered : Type 0
 ValueAnswered = (o : Order) (m : Machine) (T : Tapes) (c : Place → List ℕ)
-    → isOpening o ≡ false
+    → isOpening (workOf o (publicOf m)) ≡ false
     → step o m T c .value ≡ 0
 
 -- an accepted opening: "the answer is the value"
@@ -158,7 +155,7 @@ abbrev pub KindLeft : Type 0
 KindLeft = (o : Order) (m : Machine) (T : Tapes) (c : Place → List ℕ)
     → step o m T c .refusal ≡ 0
     → length (m .slots) ≡ 16
-    → kindAt (publicOf (step o m T c .machine)) (destination o) ≡ kindLeft (workOf o (publicOf m))
+    → kindAt (publicOf (step o m T c .machine)) (destination (workOf o (publicOf m))) ≡ kindLeft (workOf o (publicOf m))
 
 -- what each accepted order leaves in d, as a value: a is the value of register x just before, b that of register y
 abbrev pub valueAt : Machine → ℕ → ℕ

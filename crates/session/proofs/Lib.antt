@@ -1,5 +1,6 @@
 pub mod AdvanceLaw
 pub mod ChunkLaw
+pub mod CourseLaw
 pub mod EndLaw
 pub mod FeedLaw
 pub mod GrownLaw

@@ -32,6 +32,7 @@ use Rattle.line.proofs.FieldLaw.{split}
 use Rattle.session.specs.Outputs.{State, declined, itemTaken, ordered, output, outputFrom, started, taken}
 use Rattle.session.specs.Standings.{Standing, afterBytes, afterEnd, begun, printedAt, printedBy, printedFor, printedLast, readTo}
 use Rattle.session.specs.Theorems as theorem
+use Rattle.session.proofs.CourseLaw as courses
 use Rattle.session.proofs.OutputLaw as outputs
 use Rattle.session.proofs.RecordLaw.{empty-in}
 use Rattle.session.proofs.TurnLaw.{item-over, masks-over}
@@ -91,6 +92,15 @@ refused n s l ls = (
   λ t₀ t₁ t₂ e h. prints-13 n s l ls e (masks-over s t₀ t₁ t₂ h),
   λ item e h. prints-13 n s l ls e (item-over s item h),
 )
+
+pub course-read : theorem.CourseRead
+course-read = courses.course-read
+
+pub run-read : theorem.RunRead
+run-read = courses.run-read
+
+pub printed-read : theorem.PrintedRead
+printed-read = courses.printed-read
 
 pub listing : theorem.Listing
 unfolding diff modulus ringOf total anyAbove15 firstMet publicChecks emptyMachine registerAt sound soundRegister soundSlots withRegister checks dealt opened step allDigits commandOf fieldsFrom fits linesOf numberFrom numberOf numbersOf withNumbers withOne withThree ofKind decimal decimalBy printed itemTaken ordered started outputFrom output

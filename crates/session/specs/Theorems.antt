@@ -1,15 +1,19 @@
 -- Facts about what whole jobs print, for all bytes of input. Proofs: proofs/Theorems.antt.
 use Prim.Native.Nat.{ℕ, _+_, _≤_}
-use mathlib.Core.List.{List, [], _∷_, _++_, flatten}
+use mathlib.Core.List.{List, [], _∷_, _++_, flatten, map}
 use mathlib.Core.Path.{_≡_}
 use lib.ListN.{length, replicate}
 use Rattle.gate.specs.Places.{p0, three}
-use Rattle.machine.specs.Registers.{million}
+use Rattle.machine.specs.Registers.{emptyMachine, million}
+use Rattle.act.specs.Jobs.{IsRun, course}
+use Rattle.protocol.specs.Orders.{returned}
 use Rattle.line.specs.Lines.{commandOf}
 use Rattle.line.specs.Printed.{printed}
+use Rattle.line.specs.declared.commands.Command.{Command}
 use Rattle.line.specs.declared.commands.Command.the-variants.{Dealer, Masks, Unreadable}
+use Rattle.session.specs.Course.{jobOf, outcomesFrom, printedOf, said, tapesOf}
 use Rattle.session.specs.Kept.{atLine, emptyWords, noLines, standingOf}
-use Rattle.session.specs.Outputs.{State, most, output, outputFrom, zeroWords}
+use Rattle.session.specs.Outputs.{State, most, output, outputFrom, started, zeroWords}
 use Rattle.session.specs.Standings.{Standing, afterBytes, begun, printedBy, printedFor, printedLast}
 
 -- read byte by byte to the end of input, a job prints its output
@@ -49,6 +53,19 @@ Refused = (n : ℕ) (s : State) (l : List ℕ) (ls : List (List ℕ))
     → (commandOf l ≡ Unreadable → Prints13 n s l ls)
     × ((t₀ t₁ t₂ : ℕ) → commandOf l ≡ Masks t₀ t₁ t₂ → most ≤ length (s .tapes .masks p0) → Prints13 n s l ls)
     × ((item : ℕ) → commandOf l ≡ Dealer item → most ≤ length (s .tapes .dealer) → Prints13 n s l ls)
+
+-- What the orders of some lines return is the course of the job and the tapes read off the lines: each order is lent the tape lines above it.
+abbrev pub CourseRead : Type 0
+CourseRead = (ks : List Command) → map returned (outcomesFrom started ks) ≡ course (jobOf ks) (tapesOf ks)
+
+-- "A run is a job with four tapes of those lengths"
+abbrev pub RunRead : Type 0
+RunRead = (ls : List (List ℕ)) → IsRun (jobOf (said ls)) (tapesOf (said ls))
+
+-- and what is printed goes by that course
+abbrev pub PrintedRead : Type 0
+PrintedRead = (ls : List (List ℕ))
+    → outputFrom 1 started ls ≡ printedOf [] emptyMachine (said ls) (course (jobOf (said ls)) (tapesOf (said ls)))
 
 -- 01's example but for its last line: "10,1", "10,2", "1,0,13,5" and "9,0", each with byte 10
 abbrev pub asked : List ℕ

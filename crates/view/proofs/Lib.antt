@@ -1,2 +1,3 @@
 pub mod AroundLaw
+pub mod TakeLaw
 pub mod Theorems

@@ -1,18 +1,19 @@
 -- What one party sees of any list of gates (specs/Theorems.antt).
-use Prim.Native.Nat.{ℕ, _<_}
+use Prim.Native.Nat.{ℕ, zero, suc, _<_}
 use mathlib.Core.List.{List, [], _∷_}
 use mathlib.Core.Path.{_≡_, ap, ap₂, refl, _∙_}
 use native.Mathlib.Omega.{arith}
-use lib.ListN.{drop, getD}
+use lib.ListN.{drop, getD, take}
 use Rattle.gate.specs.Gates.{word}
 use Rattle.gate.specs.Places.{Pair, Place, held, next, p0, p1, p2, pair, tabled}
 use Rattle.gate.proofs.PlaceLaw.{gated-at, tabled-at, tabled-is}
 use Rattle.gate.proofs.Theorems.{item-of-word, items-fit, word-of-item}
 use Rattle.circuit.specs.Circuits.{Gate, after, ends, heads, sent, tails, words}
 use Rattle.circuit.proofs.RunLaw.{words-below}
-use Rattle.view.specs.Theorems.{EndsLocal, ItemsFit, ItemsOfWords, SentLocal, WordsFit, WordsOfItems}
+use Rattle.view.specs.Theorems.{EndsLocal, ItemsFit, ItemsOfWords, SentCausal, SentLocal, WordsFit, WordsOfItems}
 use Rattle.view.specs.Views.{around, decode, encode, first, heldStates, lackedItem, more, none, ownAfter, ownEnds, ownSent, ownWord}
 use Rattle.view.proofs.AroundLaw.{around-far, around-lacked}
+use Rattle.view.proofs.TakeLaw.{first-of-take, rest-of-take}
 
 -- U's word is its own
 own-word-is : {S : Type 0} (U : Place) (g : Gate S) (s : Place → S) (t : Place → ℕ)
@@ -55,6 +56,17 @@ sent-local S U (g ∷ G) s T =
     ap₂ _∷_ (own-turn S U g s T)
     (sent-local S U G (after g s (words g s (heads T))) (tails T)
     ∙ rw (turn S U g s T, tabled-at (λ i. drop 1 (T i)) U, tabled-at (λ i. drop 1 (T i)) (next U)))
+
+-- with no word received the first gate's word alone is taken; a word received goes into the states of the gates after it
+pub sent-causal : SentCausal
+unfolding ownSent
+sent-causal S U [] h t t′ W W′ k e = refl
+sent-causal S U (g ∷ G) h t t′ W W′ zero e = refl
+sent-causal S U (g ∷ G) h t t′ W W′ (suc k) e =
+    let w = ownWord U g h (first t) (first t′) in
+    ap (λ l. w ∷ l)
+    (sent-causal S U G (ownAfter U g h w (first W)) (drop 1 t) (drop 1 t′) (drop 1 W) (drop 1 W′) k (rest-of-take k W W′ e)
+    ∙ ap (λ z. take (suc k) (ownSent U G (ownAfter U g h w z) (drop 1 t) (drop 1 t′) (drop 1 W′))) (first-of-take k W W′ e))
 
 -- the first items and the others, seen from U
 heads-around : (U : Place) (t t′ M : List ℕ) → heads (around U t t′ M) ≡ around U (first t) (first t′) (first M)

@@ -1,10 +1,11 @@
 -- What one party sees of any list of gates, for every party by one proof each. Proofs: proofs/Theorems.antt.
-use Prim.Native.Nat.{ℕ}
+use Prim.Native.Nat.{ℕ, suc}
 use mathlib.Core.List.{List}
 use mathlib.Core.Path.{_≡_}
+use lib.ListN.{take}
 use Rattle.gate.specs.Places.{Place, next}
 use Rattle.circuit.specs.Circuits.{Gate, ends, moduli, sent}
-use Rattle.view.specs.Views.{Fits, decode, encode, heldStates, ownEnds, ownSent}
+use Rattle.view.specs.Views.{Fits, Held, decode, encode, heldStates, ownEnds, ownSent}
 
 -- what U holds and sends is a function of its own states, its own two mask tapes and the words received
 abbrev pub EndsLocal : Type 1
@@ -14,6 +15,12 @@ EndsLocal = (S : Type 0) (U : Place) (G : List (Gate S)) (s : Place → S) (T : 
 abbrev pub SentLocal : Type 1
 SentLocal = (S : Type 0) (U : Place) (G : List (Gate S)) (s : Place → S) (T : Place → List ℕ)
     → sent G s T U ≡ ownSent U G (heldStates U s) (T U) (T (next U)) (sent G s T (next U))
+
+-- "the words it has received": the first k + 1 words that a party sends depend on the first k that it receives, and on nothing later
+abbrev pub SentCausal : Type 1
+SentCausal = (S : Type 0) (U : Place) (G : List (Gate S)) (h : Held S) (t t′ W W′ : List ℕ) (k : ℕ)
+    → take k W ≡ take k W′
+    → take (suc k) (ownSent U G h t t′ W) ≡ take (suc k) (ownSent U G h t t′ W′)
 
 -- the items that U lacks and the words it receives determine each other, each list in the ranges of the gates
 abbrev pub ItemsOfWords : Type 1

@@ -1,0 +1,16 @@
+pub mod ActLaw
+pub mod Acting
+pub mod DealLaw
+pub mod Forward
+pub mod GoLaw
+pub mod InverseLaw
+pub mod OpenedLaw
+pub mod OwnLaw
+pub mod Secrecy
+pub mod SizeLaw
+pub mod LeftLaw
+pub mod LevelLaw
+pub mod LiftLaw
+pub mod LocalLaw
+pub mod PrefixLaw
+pub mod WorkLaw

@@ -1,0 +1,56 @@
+-- What a protocol owes for demand 3: each of its steps is that of a lawful act on what its state holds.
+use Prim.Native.Nat.{ℕ}
+use mathlib.Core.List.{List}
+use mathlib.Core.Path.{_≡_}
+use Rattle.gate.specs.Places.{Place, next}
+use Rattle.machine.specs.Checks.{Tapes}
+use Rattle.act.specs.Acts.{Act, isOpening, step}
+use Rattle.act.specs.Jobs.{Outcome, Protocol}
+use Rattle.act.specs.Lawful.{AlikeActs, Sameness}
+use Rattle.act.specs.Works.{Public, Shared}
+
+-- data the same in every value is the same in all that is public
+abbrev pub KeepsPublic : {E D : Type 0} → Sameness E D → Type 0
+KeepsPublic {E} {D} Same = (m n : Shared E D) → Same m n → m .public ≡ n .public
+
+-- nothing of the tapes is taken yet
+pub record AtStart {E D : Type 0} (m : Shared E D) : Type 0 where
+  pub masks : m .public .masksAt ≡ 0
+  pub dealer : m .public .dealerAt ≡ 0
+
+-- an outcome as acts see it
+abbrev pub outcomeBy : {S E D : Type 0} → (S → Shared E D) → Outcome S → Outcome (Shared E D)
+outcomeBy shared o =
+    record { state = shared (o .state); refusal = o .refusal; value = o .value; gates = o .gates; channels = o .channels }
+
+pub record RunsActs (P : Protocol {0}) (E D : Type 0) : Type 1 where
+  -- the data of a state, and what holds of every state of a run
+  pub shared : P .State → Shared E D
+  pub Good : P .State → Type 0
+  pub Same : Sameness E D
+  pub same-public : KeepsPublic Same
+  -- what is decided beforehand, whatever the tapes: which act comes next of several that wait, say
+  pub Plan : Type 0
+  pub plan : P .State → Plan
+  pub onward : P .Act → Plan → Plan
+  pub plan-after : (a : P .Act) (m : P .State) (T : Tapes) (c : Place → List ℕ) → Good m → plan (P .step a m T c .state) ≡ onward a (plan m)
+  -- the act of a step
+  pub act : P .Act → Plan → Act E D
+  pub step-is : (a : P .Act) (m : P .State) (T : Tapes) (c : Place → List ℕ) → Good m
+      → step (act a (plan m)) (shared m) T c ≡ outcomeBy shared (P .step a m T c)
+  pub good-after : (a : P .Act) (m : P .State) (T : Tapes) (c : Place → List ℕ) → Good m → Good (P .step a m T c .state)
+  -- and the words of demand 3 for it
+  pub number-is : (a : P .Act) (m : P .State) (r : ℕ) → P .NumberRefused a m r ≡ act a (plan m) .NumberRefused r
+  pub small-is : (a : P .Act) (m : P .State) → Good m → P .Small a m ≡ act a (plan m) .Small (shared m)
+  pub opening-is : (a : P .Act) (m : P .State) → P .opening a m ≡ isOpening (act a (plan m) .work (shared m .public))
+  pub AlikePlans : Plan → Plan → Type 0
+  pub alike : (a b : P .Act) (σ τ : Plan) → P .Alike a b → AlikePlans σ τ → AlikeActs Same (act a σ) (act b τ)
+  pub alike-onward : (a b : P .Act) (σ τ : Plan) → P .Alike a b → AlikePlans σ τ → AlikePlans (onward a σ) (onward b τ)
+  pub seenAs : Plan → Public E → D → D → P .Seen
+  pub seen-is : (U : Place) (m : P .State) → seenAs (plan m) (shared m .public) (shared m .share U) (shared m .share (next U)) ≡ P .seen U m
+  pub seen-alike : (σ τ : Plan) → AlikePlans σ τ → (q : Public E) (x y : D) → seenAs σ q x y ≡ seenAs τ q x y
+  -- the start
+  pub start-good : Good (P .start)
+  pub start-at : AtStart (shared (P .start))
+  pub start-same : Same (shared (P .start)) (shared (P .start))
+  pub start-alike : AlikePlans (plan (P .start)) (plan (P .start))

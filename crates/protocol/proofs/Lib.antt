@@ -1,0 +1,9 @@
+pub mod Lawful
+pub mod Local
+pub mod ModuliLaw
+pub mod OpenLaw
+pub mod OrderLaw
+pub mod Same
+pub mod Secrecy
+pub mod SharedLaw
+pub mod StepLaw

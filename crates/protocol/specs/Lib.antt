@@ -1,0 +1,4 @@
+pub mod Acts
+pub mod Local
+pub mod Orders
+pub mod Same

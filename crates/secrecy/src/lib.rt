@@ -1,1 +1,0 @@
-// Demand 3, proved: the statement is in `job`. Proofs only.
