@@ -16,18 +16,22 @@ pub record Outcome (State : Type 0) : Type 0 where
   pub gates : ℕ
   pub channels : Place → List ℕ
 
--- acts on states, and the words of demand 3 for one of them: when it is refused for its number, what must be small for it to be fair,
--- whether it opens, which acts are alike, and what party U sees of a state
+-- acts on states, and the words of demand 3 for one of them
 pub record Protocol {ℓ} : Type (ℓ + 1) where
   pub Act : Type ℓ
   pub State : Type 0
-  pub Seen : Type 0
   pub start : State
   pub step : Act → State → Tapes → (Place → List ℕ) → Outcome State
-  pub NumberRefused : Act → State → ℕ → Type 0
+  -- such a refusal says something of the number that the act deals
+  pub NumberRefused : Act → State → (refusal : ℕ) → Type 0
+  -- what must be small for the act, accepted, to be fair
   pub Small : Act → State → Type 0
+  -- accepted, it opens the value that it answers
   pub opening : Act → State → Bool
+  -- two acts alike in all but a number dealt
   pub Alike : Act → Act → Type ℓ
+  -- what party U sees of a state
+  pub Seen : Type 0
   pub seen : Place → State → Seen
 
 -- "beside each order stands how many items of each tape, from that tape's first on, it is lent"

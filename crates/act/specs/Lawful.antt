@@ -84,12 +84,12 @@ acting {E} {D} Same s =
     record {
       Act = Act E D;
       State = Shared E D;
-      Seen = Holding E D;
       start = s;
       step = step;
       NumberRefused = λ a m r. a .NumberRefused r;
       Small = λ a m. a .Small m;
       opening = λ a m. isOpening (a .work (m .public));
       Alike = AlikeActs Same;
+      Seen = Holding E D;
       seen = holding;
     }

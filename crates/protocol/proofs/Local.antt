@@ -19,15 +19,20 @@ use Rattle.act.specs.Own.{Brought, Own, answer, broughtBy, ownAnswer, ownOf, ow
 use Rattle.act.specs.Works.{Shared, Work}
 use Rattle.act.proofs.ActLaw.{done-is}
 use Rattle.act.proofs.LocalLaw.{act-answer, act-own, sends-causally}
-use Rattle.act.proofs.OwnLaw.{own-alike}
+use Rattle.act.proofs.OwnLaw.{own-alike, work-local}
 use Rattle.act.proofs.WorkLaw.{gates-alike}
 use Rattle.outcome.proofs.AcceptLaw.{accepted, refused-is}
-use Rattle.protocol.specs.Acts.{Column, Kinds, actOf, sharedOf}
-use Rattle.protocol.specs.Local.{AnswerOwn, StepCausal, StepOwn, StepSends}
+use Rattle.protocol.specs.Acts.{Column, Kinds, actOf, sharedOf, workFor}
+use Rattle.protocol.specs.Local.{AnswerOwn, StepCausal, StepLocal, StepOwn, StepSends}
 use Rattle.protocol.specs.Orders.{withoutNumber}
 use Rattle.protocol.proofs.Lawful.{alike-acts}
 use Rattle.protocol.proofs.OrderLaw.{number-apart-works}
-use Rattle.protocol.proofs.StepLaw.{refusal-same, step-is}
+use Rattle.protocol.proofs.StepLaw.{performed-is, refusal-same, step-is}
+
+pub step-local : StepLocal
+step-local U w m left c =
+    ap (λ (x : Outcome (Shared Kinds Column)). ownOf U (x .state) (x .channels)) (sym (performed-is w m left c))
+    ∙ work-local Kinds Column U (workFor (publicOf m) w) (sharedOf m) left c
 
 -- a party works out the same value without a deal's number
 value-alike : {E D : Type 0} (U : Place) {w w′ : Work E D} → AlikeWork w w′ → (P : Own E D) (B : Brought) → ownValue U w P B ≡ ownValue U w′ P B

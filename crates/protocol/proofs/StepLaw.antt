@@ -115,7 +115,8 @@ outcome-equal : {p p′ : Public Kinds} {a a′ : Place → List ℕ} {r r′ v 
     (record { state = record { public = p′; share = a′ }; refusal = r′; value = v′; gates = g′; channels = c′ })
 outcome-equal a b c d e f = rw (a, b, c, d, e, f)
 
-performed-is : (w : works.Work) (m : Machine) (left : Tapes) (c : Place → List ℕ)
+-- any work on a record is the act's work on its columns
+pub performed-is : (w : works.Work) (m : Machine) (left : Tapes) (c : Place → List ℕ)
     → acts.performed (workFor (publicOf m) w) (sharedOf m) left c ≡ outcomeBy sharedOf (returned (performed w m left c))
 performed-is w m left c =
     outcome-equal

@@ -6,13 +6,21 @@ use mathlib.Core.Path.{_≡_}
 use lib.ListN.{take}
 use Rattle.gate.specs.Places.{Place}
 use Rattle.machine.specs.Checks.{Tapes}
-use Rattle.machine.specs.Step.{step, written}
+use Rattle.machine.specs.Registers.{publicOf}
+use Rattle.machine.specs.Step.{performed, step, written}
+use Rattle.machine.specs.Work.{Work}
 use Rattle.machine.specs.declared.orders.Order.{Order}
 use Rattle.machine.specs.declared.registers.Machine.{Machine}
 use Rattle.act.specs.Local.{SameUpTo, sentBy}
-use Rattle.act.specs.Own.{answer, broughtBy, ownAnswer, ownOf, ownStep}
-use Rattle.protocol.specs.Acts.{actOf, sharedOf}
-use Rattle.protocol.specs.Orders.{withoutNumber}
+use Rattle.act.specs.Own.{answer, brought, broughtBy, ownAnswer, ownOf, ownPerformed, ownStep}
+use Rattle.protocol.specs.Acts.{actOf, sharedOf, workFor}
+use Rattle.protocol.specs.Orders.{column, withoutNumber}
+
+-- what U has after any work on a record is a function of what it had and what the work brought it
+abbrev pub StepLocal : Type 1
+StepLocal = (U : Place) (w : Work) (m : Machine) (left : Tapes) (c : Place → List ℕ)
+    → ownOf U (sharedOf (performed w m left c .machine)) (performed w m left c .channels)
+    ≡ ownPerformed U (workFor (publicOf m) w) (ownOf U (sharedOf m) c) (brought U (workFor (publicOf m) w) (column m) left)
 
 -- what U has after an order: from the order without a deal's number, the refusal answered, what U had and what the order brought it
 abbrev pub StepOwn : Type 0
