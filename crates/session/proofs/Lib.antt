@@ -1,4 +1,5 @@
 pub mod AdvanceLaw
+pub mod AlikeLaw
 pub mod ChunkLaw
 pub mod CourseLaw
 pub mod EndLaw

@@ -32,6 +32,7 @@ use Rattle.line.proofs.FieldLaw.{split}
 use Rattle.session.specs.Outputs.{State, declined, itemTaken, ordered, output, outputFrom, started, taken}
 use Rattle.session.specs.Standings.{Standing, afterBytes, afterEnd, begun, printedAt, printedBy, printedFor, printedLast, readTo}
 use Rattle.session.specs.Theorems as theorem
+use Rattle.session.proofs.AlikeLaw as alike
 use Rattle.session.proofs.CourseLaw as courses
 use Rattle.session.proofs.OutputLaw as outputs
 use Rattle.session.proofs.RecordLaw.{empty-in}
@@ -101,6 +102,12 @@ run-read = courses.run-read
 
 pub printed-read : theorem.PrintedRead
 printed-read = courses.printed-read
+
+pub alike-read : theorem.AlikeRead
+alike-read = alike.alike-read
+
+pub printed-seen : theorem.PrintedSeen
+printed-seen = alike.printed-seen
 
 pub listing : theorem.Listing
 unfolding diff modulus ringOf total anyAbove15 firstMet publicChecks emptyMachine registerAt sound soundRegister soundSlots withRegister checks dealt opened step allDigits commandOf fieldsFrom fits linesOf numberFrom numberOf numbersOf withNumbers withOne withThree ofKind decimal decimalBy printed itemTaken ordered started outputFrom output

@@ -2,6 +2,7 @@
 use Prim.Native.Nat.{ℕ, _+_}
 use mathlib.Core.Bool.{cond}
 use mathlib.Core.List.{List, [], _∷_, _++_, flatten, map}
+use mathlib.Core.Path.{_≡_}
 use lib.Dec.{ltb}
 use lib.ListN.{length, take}
 use Rattle.gate.specs.Places.{Place, p0, tabled, three}
@@ -10,7 +11,7 @@ use Rattle.machine.specs.Step as steps
 use Rattle.machine.specs.Step.{step}
 use Rattle.machine.specs.declared.registers.Machine.{Machine}
 use Rattle.act.specs.Jobs.{Entry, Job, Outcome}
-use Rattle.protocol.specs.Orders.{orders}
+use Rattle.protocol.specs.Orders.{orders, withoutNumber}
 use Rattle.line.specs.Lines.{commandOf}
 use Rattle.line.specs.declared.commands.Command.{Command}
 use Rattle.line.specs.declared.commands.Command.the-variants.{Dealer, Masks, Order, Unreadable}
@@ -65,6 +66,18 @@ jobOf ks =
       masksLength = λ i. length (tapesOf ks .masks i);
       dealerLength = length (tapesOf ks .dealer);
     }
+
+-- two lines "alike in all but the numbers dealt" and the items of tape lines
+pub data AlikeCommands : Command → Command → Type 0 where
+  masks : {t₀ t₁ t₂ u₀ u₁ u₂ : ℕ} → AlikeCommands (Masks t₀ t₁ t₂) (Masks u₀ u₁ u₂)
+  dealer : {t u : ℕ} → AlikeCommands (Dealer t) (Dealer u)
+  order : {o o′ : orders .Act} → withoutNumber o ≡ withoutNumber o′ → AlikeCommands (Order o) (Order o′)
+  unreadable : AlikeCommands Unreadable Unreadable
+
+-- as many lines, alike place by place
+pub data AlikeSaid : List Command → List Command → Type 0 where
+  done : AlikeSaid [] []
+  more : {k k′ : Command} {ks ks′ : List Command} → AlikeCommands k k′ → AlikeSaid ks ks′ → AlikeSaid (k ∷ ks) (k′ ∷ ks′)
 
 -- what each order returns where the job program gives it
 abbrev pub outcomeOf : State → Command → List steps.Outcome

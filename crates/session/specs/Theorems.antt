@@ -3,15 +3,16 @@ use Prim.Native.Nat.{ℕ, _+_, _≤_}
 use mathlib.Core.List.{List, [], _∷_, _++_, flatten, map}
 use mathlib.Core.Path.{_≡_}
 use lib.ListN.{length, replicate}
-use Rattle.gate.specs.Places.{p0, three}
+use Rattle.gate.specs.Places.{Place, p0, three}
 use Rattle.machine.specs.Registers.{emptyMachine, million}
-use Rattle.act.specs.Jobs.{IsRun, course}
-use Rattle.protocol.specs.Orders.{returned}
+use Rattle.machine.specs.declared.registers.Machine.{Machine}
+use Rattle.act.specs.Jobs.{Alike, IsRun, Outcome, course, viewOf}
+use Rattle.protocol.specs.Orders.{orders, returned}
 use Rattle.line.specs.Lines.{commandOf}
 use Rattle.line.specs.Printed.{printed}
 use Rattle.line.specs.declared.commands.Command.{Command}
 use Rattle.line.specs.declared.commands.Command.the-variants.{Dealer, Masks, Unreadable}
-use Rattle.session.specs.Course.{jobOf, outcomesFrom, printedOf, said, tapesOf}
+use Rattle.session.specs.Course.{AlikeSaid, jobOf, outcomesFrom, printedOf, said, tapesOf}
 use Rattle.session.specs.Kept.{atLine, emptyWords, noLines, standingOf}
 use Rattle.session.specs.Outputs.{State, most, output, outputFrom, started, zeroWords}
 use Rattle.session.specs.Standings.{Standing, afterBytes, begun, printedBy, printedFor, printedLast}
@@ -66,6 +67,16 @@ RunRead = (ls : List (List ℕ)) → IsRun (jobOf (said ls)) (tapesOf (said ls))
 abbrev pub PrintedRead : Type 0
 PrintedRead = (ls : List (List ℕ))
     → outputFrom 1 started ls ≡ printedOf [] emptyMachine (said ls) (course (jobOf (said ls)) (tapesOf (said ls)))
+
+-- "two jobs alike in all but the numbers dealt": demand 3 speaks of any two lists of lines that differ in those and in the tapes' items alone
+abbrev pub AlikeRead : Type 0
+AlikeRead = (ks ks′ : List Command) → AlikeSaid ks ks′ → Alike (jobOf ks) (jobOf ks′)
+
+-- What such lines print goes by what any one party sees after every order: so a run and its image print the same.
+abbrev pub PrintedSeen : Type 0
+PrintedSeen = (U : Place) (ks ks′ : List Command) → AlikeSaid ks ks′ → (xs ys : List (Outcome Machine))
+    → map (viewOf orders U) xs ≡ map (viewOf orders U) ys
+    → printedOf [] emptyMachine ks xs ≡ printedOf [] emptyMachine ks′ ys
 
 -- 01's example but for its last line: "10,1", "10,2", "1,0,13,5" and "9,0", each with byte 10
 abbrev pub asked : List ℕ
