@@ -25,12 +25,12 @@ use Rattle.act.specs.Works.{Public, Shared, Work, badItem, begun, deals,
 use Rattle.act.proofs.WorkLaw.{Inside}
 
 -- an act that is not refused is not refused for what is public, nor for an item
-pub public-zero : (r : ℕ) (b : Bool) → refusalBy r b ≡ 0 → (r ≡ 0) × (b ≡ false)
+public-zero : (r : ℕ) (b : Bool) → refusalBy r b ≡ 0 → (r ≡ 0) × (b ≡ false)
 public-zero zero true e = absurd (omega arith)
 public-zero zero false e = (refl, refl)
 public-zero (suc r) b e = absurd (omega arith)
 
-pub public-aside : (r : ℕ) (b : Bool) → (refusalBy r b ≡ 10 → ⊥) → refusalBy r b ≡ r
+public-aside : (r : ℕ) (b : Bool) → (refusalBy r b ≡ 10 → ⊥) → refusalBy r b ≡ r
 public-aside zero true h = absurd (h refl)
 public-aside zero false h = refl
 public-aside (suc r) b h = refl

@@ -1,7 +1,7 @@
 -- The facts about what jobs print (specs/Theorems.antt).
 use Prim.Native.Nat.{ℕ, suc, _≤_}
 use mathlib.Core.List.{List, [], _∷_, _++_, append-assoc, append-nil, flatten}
-use mathlib.Core.Path.{_≡_, ap, refl, _∙_}
+use mathlib.Core.Path.{_≡_, ap, refl, sym, _∙_}
 use native.Mathlib.Omega.{arith}
 use lib.Dec.{eqb}
 use lib.ListN.{length}
@@ -29,6 +29,7 @@ use Rattle.line.specs.Printed.{decimal, decimalBy, printed}
 use Rattle.line.specs.Readings.{byteOn}
 use Rattle.line.specs.declared.commands.Command.{Command}
 use Rattle.line.proofs.FieldLaw.{split}
+use Rattle.session.specs.Course.{said}
 use Rattle.session.specs.Outputs.{State, declined, itemTaken, ordered, output, outputFrom, started, taken}
 use Rattle.session.specs.Standings.{Standing, afterBytes, afterEnd, begun, printedAt, printedBy, printedFor, printedLast, readTo}
 use Rattle.session.specs.Theorems as theorem
@@ -108,6 +109,9 @@ alike-read = alike.alike-read
 
 pub printed-seen : theorem.PrintedSeen
 printed-seen = alike.printed-seen
+
+pub prints-same : theorem.PrintsSame
+prints-same U ls ls′ a e = printed-read ls ∙ printed-seen U (said ls) (said ls′) a _ _ e ∙ sym (printed-read ls′)
 
 pub listing : theorem.Listing
 unfolding diff modulus ringOf total anyAbove15 firstMet publicChecks emptyMachine registerAt sound soundRegister soundSlots withRegister checks dealt opened step allDigits commandOf fieldsFrom fits linesOf numberFrom numberOf numbersOf withNumbers withOne withThree ofKind decimal decimalBy printed itemTaken ordered started outputFrom output

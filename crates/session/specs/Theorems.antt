@@ -6,7 +6,7 @@ use lib.ListN.{length, replicate}
 use Rattle.gate.specs.Places.{Place, p0, three}
 use Rattle.machine.specs.Registers.{emptyMachine, million}
 use Rattle.machine.specs.declared.registers.Machine.{Machine}
-use Rattle.act.specs.Jobs.{Alike, IsRun, Outcome, course, viewOf}
+use Rattle.act.specs.Jobs.{Alike, IsRun, Outcome, course, viewOf, views}
 use Rattle.protocol.specs.Orders.{orders, returned}
 use Rattle.line.specs.Lines.{commandOf}
 use Rattle.line.specs.Printed.{printed}
@@ -77,6 +77,12 @@ abbrev pub PrintedSeen : Type 0
 PrintedSeen = (U : Place) (ks ks′ : List Command) → AlikeSaid ks ks′ → (xs ys : List (Outcome Machine))
     → map (viewOf orders U) xs ≡ map (viewOf orders U) ys
     → printedOf [] emptyMachine ks xs ≡ printedOf [] emptyMachine ks′ ys
+
+-- of the program's output: lines alike, whose runs look the same to one party, print the same
+abbrev pub PrintsSame : Type 0
+PrintsSame = (U : Place) (ls ls′ : List (List ℕ)) → AlikeSaid (said ls) (said ls′)
+    → views U (jobOf (said ls)) (tapesOf (said ls)) ≡ views U (jobOf (said ls′)) (tapesOf (said ls′))
+    → outputFrom 1 started ls ≡ outputFrom 1 started ls′
 
 -- 01's example but for its last line: "10,1", "10,2", "1,0,13,5" and "9,0", each with byte 10
 abbrev pub asked : List ℕ
