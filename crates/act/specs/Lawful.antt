@@ -40,15 +40,19 @@ toldAt (deals rest p v put) s i = 0
 toldAt (runs rest R) s i = 0
 toldAt (opens rest read value) s i = read (s i)
 
--- what an act owes: it is accepted only where enough is lent and moduli are narrow; what is small goes by values; accepted on the same data it leaves
--- the same, whatever the tapes; what it opens goes by values; and that value and two shares give what is read of the third
+-- what an act owes
 pub record Lawful {E D : Type 0} (Same : Sameness E D) (a : Act E D) : Type 0 where
+  -- accepted, it is lent all that it takes, and what it takes is narrow
   pub lends : (q : Public E) (len : Lengths) → a .refusal q len ≡ 0 → Lends (a .work q) q len
   pub narrow : (q : Public E) (len : Lengths) → a .refusal q len ≡ 0 → NarrowWork (a .work q)
+  -- what is small goes by values
   pub small : (m n : Shared E D) → Same m n → a .Small m → a .Small n
+  -- accepted on data that are the same it leaves the same, whatever the tapes
   pub keeps : (m n : Shared E D) (T T′ : Tapes) (c c′ : Place → List ℕ) → Same m n
       → step a m T c .refusal ≡ 0 → step a n T′ c′ .refusal ≡ 0 → a .Small m
       → Same (step a m T c .state) (step a n T′ c′ .state)
+  -- what it opens goes by values, and tells no more: that value and U's own two shares give what is read of the third. m₀ and n₀ are any
+  -- data that m and n are the same as, so all that Same asks of one side holds of m and n
   pub value : (m n : Shared E D) → Same m n → valueFrom (a .work (m .public)) (m .share) ≡ valueFrom (a .work (n .public)) (n .share)
   pub third : (U : Place) (m₀ m n₀ n : Shared E D) (len : Lengths) → Same m₀ m → Same n₀ n → m .public ≡ n .public
       → a .refusal (m .public) len ≡ 0

@@ -9,14 +9,14 @@ use Rattle.circuit.specs.Circuits.{Gate, ends, moduli, sent}
 use Rattle.machine.specs.Checks.{Tapes, anyBad, leftFrom}
 use Rattle.machine.specs.Step.{dealtShares}
 
--- what is public: the three positions, and whatever else
+-- what is public: the three positions, and whatever else, of type E
 pub record Public (E : Type 0) : Type 0 where
   pub rest : E
   pub masksAt : ℕ
   pub channelsAt : ℕ
   pub dealerAt : ℕ
 
--- and what each place holds: party U has the shares at U and at U + 1
+-- and the share that each place holds, of type D; party U has those at U and at U + 1
 pub record Shared (E D : Type 0) : Type 0 where
   pub public : Public E
   pub share : Place → D

@@ -98,6 +98,6 @@ orders =
       seen = seenBy;
     }
 
--- demand 3
+-- demand 3: two jobs of orders that differ in the numbers dealt alone, which open the same, look the same to any single party
 abbrev pub OrdersSecret : Type 0
 OrdersSecret = Secrecy orders
