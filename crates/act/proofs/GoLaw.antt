@@ -16,10 +16,10 @@ use Rattle.act.specs.Acts.{Act, performed, refusalBy, step}
 use Rattle.act.specs.Changes.{before, decoded, itemsK, leftJ, leftK, nextK, outcomeJ, outcomeK, restOf, workJ, workK}
 use Rattle.act.specs.Jobs.{AlikeEntries, Entry, Outcome, Protocol, lent, outcome}
 use Rattle.act.specs.Lawful.{AlikeWork, Lawful, Lends, Sameness, acting}
-use Rattle.act.specs.Lawful as lawful
 use Rattle.act.specs.Own.{handedOf}
 use Rattle.act.specs.Secrecy.{Hidden, tapesWith}
 use Rattle.act.specs.Works.{Public, Shared, Work, badItem, deals, gatesIn, itemsIn, leftOf, opens, publicAfter, runs, wordsFrom}
+use Rattle.act.specs.Lawful as lawful
 use Rattle.act.proofs.ActLaw.{done-is, inside-by, inside-passes, masks-lent, passed, refusal-is}
 use Rattle.act.proofs.LeftLaw.{SameLengths, left-far, left-first, left-lacked, left-own, lengths-beside}
 use Rattle.act.proofs.LevelLaw.{Level, after-alike, length-decode, works-alike}

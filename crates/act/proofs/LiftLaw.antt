@@ -18,9 +18,9 @@ use Rattle.machine.proofs.WrittenLaw.{nothing-written}
 use Rattle.act.specs.Acts.{Act, performed, refusalBy, refused, step}
 use Rattle.act.specs.Jobs.{Outcome}
 use Rattle.act.specs.Lawful.{AlikeWork, Lends, NarrowWork, toldAt}
-use Rattle.act.specs.Lawful as lawful
 use Rattle.act.specs.Lifting.{InBoth, KeepsSecond, LiftAlike, LiftLawful, LiftStep, RewriteLawful, RewriteStep, firstOf, firstPart, firstPublic, joined, liftAct, liftWork, rewriteAct, rewriting, rewritten, rewrote, secondAfter, withSecond}
 use Rattle.act.specs.Works.{Public, Shared, Work, badItem, deals, gatesIn, leftOf, opens, runs, sharesAfter, valueFrom, wordsFrom}
+use Rattle.act.specs.Lawful as lawful
 use Rattle.act.proofs.ActLaw.{done-is, passed, refusal-is}
 use Rattle.act.proofs.WorkLaw.{gates-alike}
 

@@ -11,10 +11,10 @@ use Rattle.view.proofs.Theorems.{sent-causal}
 use Rattle.machine.specs.Checks.{Tapes}
 use Rattle.act.specs.Jobs.{Outcome}
 use Rattle.act.specs.Lawful.{AlikeWork}
-use Rattle.act.specs.Lawful as lawful
 use Rattle.act.specs.Local.{ActAnswer, ActCausal, ActOwn, SendsCausally}
 use Rattle.act.specs.Own.{Brought, Own, answer, brought, broughtBy, ownAnswer, ownOf, ownStarts, ownStep, ownValue, ownWords}
 use Rattle.act.specs.Works.{Shared, Work, deals, gatesIn, leftOf, opens, runs, sharesRead, valueFrom, wordsFrom}
+use Rattle.act.specs.Lawful as lawful
 use Rattle.act.proofs.ActLaw.{step-by}
 use Rattle.act.proofs.OwnLaw.{words-local, work-local}
 

@@ -14,10 +14,10 @@ use Rattle.machine.specs.Step.{dealtShares, written}
 use Rattle.act.specs.Acts.{isOpening, performed}
 use Rattle.act.specs.Jobs.{Outcome, view, viewOf}
 use Rattle.act.specs.Lawful.{AlikeWork, Holding, Sameness, acting, toldAt}
-use Rattle.act.specs.Lawful as lawful
 use Rattle.act.specs.Local.{WorkLocal}
 use Rattle.act.specs.Own.{Brought, Own, brought, ownOf, ownPerformed, ownShares, ownStarts, ownWords}
 use Rattle.act.specs.Works.{Public, Run, Shared, Work, begun, deals, opens, runs, sharesAfter, valueFrom, wordsFrom}
+use Rattle.act.specs.Lawful as lawful
 use Rattle.act.proofs.WorkLaw.{Inside, Partner, handed-same, received-same}
 
 own-equal : {E D : Type 0} {p q : Public E} {o o′ f f′ : D} {s s′ r r′ : List ℕ} → p ≡ q → o ≡ o′ → f ≡ f′ → s ≡ s′ → r ≡ r′

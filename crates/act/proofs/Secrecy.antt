@@ -8,11 +8,11 @@ use Rattle.gate.specs.Places.{Place, next}
 use Rattle.machine.specs.Checks.{Tapes}
 use Rattle.act.specs.Acts.{step}
 use Rattle.act.specs.Jobs.{Alike, AlikeLists, Entry, FairFrom, Job, Outcome, Protocol, View, Words, courseFrom, lent, openedFrom, outcome, view, viewOf}
-use Rattle.act.specs.Jobs as jobs
 use Rattle.act.specs.Lawful.{Holding, acting}
 use Rattle.act.specs.Runs.{RunsActs, outcomeBy}
 use Rattle.act.specs.Secrecy.{Hidden, Hides, Meet, Secrecy, tapesWith}
 use Rattle.act.specs.Works.{Shared}
+use Rattle.act.specs.Jobs as jobs
 use Rattle.act.proofs.Acting.{acting-secrecy}
 use Rattle.act.proofs.Acting as acts
 use Rattle.act.proofs.InverseLaw.{change}

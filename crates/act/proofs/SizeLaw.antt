@@ -12,13 +12,13 @@ use Rattle.view.specs.Views as views
 use Rattle.view.proofs.Theorems.{items-fit-gates}
 use Rattle.act.specs.Changes.{Changed, before, dealtAround, decoded, differ, end, go, item, itemsK, leftJ, outcomeJ, outcomeK, restOf, skip, workJ, workK}
 use Rattle.act.specs.Jobs.{AlikeEntries, AlikeLists, Entry, Words, lent}
-use Rattle.act.specs.Jobs as jobs
 use Rattle.act.specs.Lawful.{AlikeWork, Narrow, NarrowWork, Sameness, acting}
-use Rattle.act.specs.Lawful as lawful
 use Rattle.act.specs.Own.{handedOf}
 use Rattle.act.specs.Runs.{AtStart}
 use Rattle.act.specs.Secrecy.{Hidden, tapesWith}
 use Rattle.act.specs.Works.{Shared, Work, deals, opens, runs, wordsFrom}
+use Rattle.act.specs.Jobs as jobs
+use Rattle.act.specs.Lawful as lawful
 use Rattle.act.proofs.ActLaw.{passed}
 use Rattle.act.proofs.DealLaw.{items-below}
 use Rattle.act.proofs.GoLaw.{accepted-items, decoded-dealer, decoded-lacked, public-kept, rest-before}

@@ -18,10 +18,10 @@ use Rattle.act.specs.Acts.{performed}
 use Rattle.act.specs.Changes.{dealtAround, decoded}
 use Rattle.act.specs.Jobs.{Outcome}
 use Rattle.act.specs.Lawful.{AlikeWork}
-use Rattle.act.specs.Lawful as lawful
 use Rattle.act.specs.Own.{handedOf}
 use Rattle.act.specs.Secrecy.{Hidden}
 use Rattle.act.specs.Works.{Run, Shared, Work, begun, deals, gatesIn, itemsIn, opens, publicAfter, runs, sharesAfter, valueFrom, wordsFrom}
+use Rattle.act.specs.Lawful as lawful
 use Rattle.act.proofs.DealLaw.{items-back, items-below, pair-back, pair-below}
 use Rattle.act.proofs.PrefixLaw.{Agree, ends-prefix, sent-prefix}
 

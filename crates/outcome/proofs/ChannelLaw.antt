@@ -19,7 +19,7 @@ use Rattle.machine.specs.Work.{Work, adjusts, computes, deals, opens}
 use Rattle.machine.specs.declared.registers.Machine.{Machine}
 use Rattle.machine.proofs.KindLaw.{neither}
 use Rattle.machine.proofs.WrittenLaw.{empty-of, nothing-written}
-use Rattle.outcome.specs.Theorems.{wordsOf}
+use Rattle.outcome.specs.Theorems.{wordsIn}
 use Rattle.outcome.proofs.CheckLaw.{Passed}
 use Rattle.outcome.proofs.RegisterLaw.{sharesAt}
 use Rattle.outcome.proofs.WorkLaw.{Light, even}
@@ -68,7 +68,7 @@ module _ (m : Machine) (T left : Tapes) (c : Place → List ℕ) (i : Place) whe
   length-words C x y = length-sent (C .gates) (starts C (sharesAt m x) (sharesAt m y)) (left .masks) i
 
   pub channels-kept : (w : Work) → Light w → Passed (lengthChecks w (publicOf m) (lengthsOf T c))
-      → Stands at (wordsOf w) (c i) (performed w m left c .channels i)
+      → Stands at (wordsIn w) (c i) (performed w m left c .channels i)
   unfolding dealt computed opened
   channels-kept (deals d e v) l h = stands at 0 (c i)
   channels-kept (adjusts C d x y kind) none h =

@@ -21,17 +21,17 @@ use Rattle.value.proofs.ModulusLaw.{value-lt}
 use Rattle.machine.specs.Checks.{Check, Tapes, anyAbove15, badItem, check, firstMet, kindChecks, leftOf, named, noRing, publicChecks}
 use Rattle.machine.specs.Registers.{Kind, Public, bits, countAt, empty, kindAt, kindOf, million, publicOf, registerAt, sound, widthAt}
 use Rattle.machine.specs.Step.{Outcome, checks, computed, dealt, lengthsOf, opened, performed, step}
-use Rattle.machine.specs.Work.{Work, adjusts, computes, deals, numberKind, opens, workOf}
+use Rattle.machine.specs.Work.{deals, numberKind, workOf}
 use Rattle.machine.specs.declared.orders.Order.{Order}
 use Rattle.machine.specs.declared.orders.Order.the-variants.{Add, Compose, Convert, Deal, Decompose, Multiply, Open, Scale, Shift}
 use Rattle.machine.specs.declared.registers.Machine.{Machine}
 use Rattle.machine.specs.declared.registers.Slot.{Slot}
-use Rattle.outcome.specs.Theorems.{AddLeaves, ChannelsStand, ComposeLeaves, ConvertLeaves, ConvertLeavesAll, DealAccepted, DealLeaves, DealRefusedNumber, DecomposeLeaves, DecomposeLeavesAll, GatesAnswered, GatesCounted, KeepsSound, KindLeft, MultiplyLeaves, OpensValue, OthersStand, PositionsRise, PublicRefusal, RoundTrip, ScaleLeaves, ShiftLeaves, ShiftLeavesAll, Unchanged, ValueAnswered, destination, gatesFor, gatesIn, isOpening, kindLeft, valueAt, wordsOf}
+use Rattle.outcome.specs.Theorems.{AddLeaves, ChannelsStand, ComposeLeaves, ConvertLeaves, ConvertLeavesAll, DealAccepted, DealLeaves, DealRefusedNumber, DecomposeLeaves, DecomposeLeavesAll, GatesAnswered, GatesCounted, KeepsSound, KindLeft, MultiplyLeaves, OpensValue, OthersStand, PositionsRise, PublicRefusal, RoundTrip, ScaleLeaves, ShiftLeaves, ShiftLeavesAll, Unchanged, ValueAnswered, destination, gatesFor, gatesIn, isOpening, kindLeft, valueAt, wordsIn}
 use Rattle.outcome.proofs.ChannelLaw.{Stands, channels-kept, stands}
 use Rattle.outcome.proofs.AcceptLaw.{Accepted, accepted, either, refusal-is, refused-is}
 use Rattle.outcome.proofs.CheckLaw.{Passed, last-aside}
 use Rattle.outcome.proofs.KindLaw.{add-fits, add-value, compose-fits, compose-value, convert-fits, convert-value, convert-value-all, count-in-range, deal-fits, deal-value, decompose-fits, decompose-gates, decompose-value, decompose-value-all, multiply-fits, multiply-value, scale-fits, scale-value, shift-fits, shift-gates, shift-value, shift-value-all}
-use Rattle.outcome.proofs.OrderLaw.{light}
+use Rattle.outcome.proofs.OrderLaw.{light, target-is}
 use Rattle.outcome.proofs.RegisterLaw.{register-fits, sharesAt, sound-parts, value-at}
 use Rattle.outcome.proofs.WorkLaw.{FitsIn, computed-leaves, dealt-leaves, gates-are, others-kept, performed-sound, public-after, publicBy, rises, slots-kept}
 
@@ -144,26 +144,32 @@ gates-counted o m T c ok = gates-answered o m T c ok ∙ counted o (publicOf m) 
 pub others-stand : OthersStand
 others-stand o m T c k other =
     either o m T c (λ s. registerAt (s .machine) k ≡ registerAt m k)
-    (λ a. others-kept m (leftOf (publicOf m) T) c (workOf o (publicOf m)) k other)
+    (λ a. others-kept m (leftOf (publicOf m) T) c (workOf o (publicOf m)) k (λ e. other (e ∙ target-is o (publicOf m))))
     refl
 
 pub channels-stand : ChannelsStand
 channels-stand o m T c i =
-    let words = wordsOf (workOf o (publicOf m)) in
+    let words = wordsIn (workOf o (publicOf m)) in
     either o m T c (λ s. Stands (m .«channels_at») words (c i) (s .channels i))
     (λ a. channels-kept m T (leftOf (publicOf m) T) c i (workOf o (publicOf m)) (light o (publicOf m)) (a .lengths))
     (stands (m .«channels_at») words (c i))
 
-no-value : (w : Work) (m : Machine) (left : Tapes) (c : Place → List ℕ) → isOpening w ≡ false → performed w m left c .value ≡ 0
+no-value : (o : Order) (m : Machine) (left : Tapes) (c : Place → List ℕ) → isOpening o ≡ false
+    → performed (workOf o (publicOf m)) m left c .value ≡ 0
 unfolding dealt computed
-no-value (deals d e v) m left c h = refl
-no-value (adjusts C d x y kind) m left c h = refl
-no-value (computes C d x y kind) m left c h = refl
-no-value (opens x) m left c h = absurd (true≢false h)
+no-value (Deal d e v) m left c h = refl
+no-value (Add d x y) m left c h = refl
+no-value (Scale d x k) m left c h = refl
+no-value (Multiply d x y) m left c h = refl
+no-value (Decompose d x l) m left c h = refl
+no-value (Convert d x f) m left c h = refl
+no-value (Shift d x s) m left c h = refl
+no-value (Compose d x f) m left c h = refl
+no-value (Open x) m left c h = absurd (true≢false h)
 
 pub value-answered : ValueAnswered
 value-answered o m T c h =
-    either o m T c (λ s. s .value ≡ 0) (λ a. no-value (workOf o (publicOf m)) m (leftOf (publicOf m) T) c h) refl
+    either o m T c (λ s. s .value ≡ 0) (λ a. no-value o m (leftOf (publicOf m) T) c h) refl
 
 pub opens-value : OpensValue
 unfolding opened
@@ -185,7 +191,7 @@ module _ (p : Public) (sixteen : length (p .kinds) ≡ 16) where
   kind-put : (d : ℕ) (ks : List ℕ) (kind : Kind) → anyAbove15 (d ∷ ks) ≡ false → getD (set (p .kinds) d kind) d empty ≡ kind
   kind-put d ks kind h = getD-set-same (p .kinds) d kind empty (in-reach d ks _ h sixteen)
 
-  kind-by : (o : Order) → anyAbove15 (named o) ≡ false → kindAt (publicBy (workOf o p) p) (destination (workOf o p)) ≡ kindLeft (workOf o p)
+  kind-by : (o : Order) → anyAbove15 (named o) ≡ false → kindAt (publicBy (workOf o p) p) (destination o) ≡ kindLeft (workOf o p)
   kind-by (Deal d e v) h = kind-put d [] (numberKind (ringOf e)) h
   kind-by (Add d x y) h = kind-put d (x ∷ y ∷ []) (kindAt p x) h
   kind-by (Scale d x c) h = kind-put d (x ∷ []) (kindAt p x) h
@@ -198,7 +204,7 @@ module _ (p : Public) (sixteen : length (p .kinds) ≡ 16) where
 
 pub kind-left : KindLeft
 kind-left o m T c ok sixteen =
-    ap (λ (p : Public). kindAt p (destination (workOf o (publicOf m)))) (step-public o m T c ok)
+    ap (λ (p : Public). kindAt p (destination o)) (step-public o m T c ok)
     ∙ kind-by (publicOf m) (length-map (m .slots) (λ (s : Slot). kindOf (s .reg)) ∙ sixteen) o (accepted o m T c ok .registers)
 
 pub deal-leaves : DealLeaves

@@ -19,9 +19,16 @@ use Rattle.machine.specs.Work.{Work, adjusts, computes, deals, numberKind, open
 use Rattle.machine.specs.declared.registers.Machine.{Machine}
 use Rattle.machine.specs.declared.registers.Slot.{Slot}
 use Rattle.machine.proofs.KindLaw.{neither}
-use Rattle.outcome.specs.Theorems.{destination, gatesIn, itemsOf, valueAt, wordsOf}
+use Rattle.outcome.specs.Theorems.{gatesIn, itemsIn, valueAt, wordsIn}
 use Rattle.outcome.proofs.CheckLaw.{Passed}
 use Rattle.outcome.proofs.RegisterLaw.{Fits, Sound, map-set, parts-sound, register-other, register-same, sharesAt, sound-with, value-as, valueAs}
+
+-- the register that it writes: 16 where it writes none
+abbrev pub target : Work → ℕ
+target (deals d e v) = d
+target (adjusts C d x y kind) = d
+target (computes C d x y kind) = d
+target (opens x) = 16
 
 -- the sub-shares that it leaves there, of a deal and of a circuit; and that they are in range
 abbrev dealtBy : (e v : ℕ) → Tapes → Place → ℕ
@@ -104,8 +111,8 @@ public-with m gates words items d kind x =
 module _ (m : Machine) (left : Tapes) (c : Place → List ℕ) where
   pub rises : (w : Work)
       → (performed w m left c .machine .«masks_at» ≡ m .«masks_at» + performed w m left c .gates)
-      × (performed w m left c .machine .«channels_at» ≡ m .«channels_at» + wordsOf w)
-      × (performed w m left c .machine .«dealer_at» ≡ m .«dealer_at» + itemsOf w)
+      × (performed w m left c .machine .«channels_at» ≡ m .«channels_at» + wordsIn w)
+      × (performed w m left c .machine .«dealer_at» ≡ m .«dealer_at» + itemsIn w)
   unfolding dealt computed opened withRegister
   rises (deals d e v) = (refl, refl, refl)
   rises (adjusts C d x y kind) = (refl, refl, refl)
@@ -126,7 +133,7 @@ module _ (m : Machine) (left : Tapes) (c : Place → List ℕ) where
   slots-kept (computes C d x y kind) = length-set (m .slots) d _
   slots-kept (opens x) = refl
 
-  pub others-kept : (w : Work) (k : ℕ) → (k ≡ destination w → ⊥) → registerAt (performed w m left c .machine) k ≡ registerAt m k
+  pub others-kept : (w : Work) (k : ℕ) → (k ≡ target w → ⊥) → registerAt (performed w m left c .machine) k ≡ registerAt m k
   unfolding dealt computed opened registerAt
   others-kept (deals d e v) k h = register-other (moved m 0 0 2) d k _ h
   others-kept (adjusts C d x y kind) k h = register-other (moved m (gatesOf C) (gatesOf C) 0) d k _ h

@@ -62,25 +62,25 @@ gatesIn (adjusts C d x y kind) = gatesOf C
 gatesIn (computes C d x y kind) = gatesOf C
 gatesIn (opens x) = 0
 
-abbrev pub wordsOf : Work → ℕ
-wordsOf (deals d e v) = 0
-wordsOf (adjusts C d x y kind) = gatesOf C
-wordsOf (computes C d x y kind) = gatesOf C
-wordsOf (opens x) = 1
+abbrev pub wordsIn : Work → ℕ
+wordsIn (deals d e v) = 0
+wordsIn (adjusts C d x y kind) = gatesOf C
+wordsIn (computes C d x y kind) = gatesOf C
+wordsIn (opens x) = 1
 
-abbrev pub itemsOf : Work → ℕ
-itemsOf (deals d e v) = 2
-itemsOf (adjusts C d x y kind) = 0
-itemsOf (computes C d x y kind) = 0
-itemsOf (opens x) = 0
+abbrev pub itemsIn : Work → ℕ
+itemsIn (deals d e v) = 2
+itemsIn (adjusts C d x y kind) = 0
+itemsIn (computes C d x y kind) = 0
+itemsIn (opens x) = 0
 
 -- "the strand position's rise" is the answer's gates; the other positions rise by the words written and the items dealt
 abbrev pub PositionsRise : Type 0
 PositionsRise = (o : Order) (m : Machine) (T : Tapes) (c : Place → List ℕ)
     → step o m T c .refusal ≡ 0
     → (step o m T c .machine .«masks_at» ≡ m .«masks_at» + step o m T c .gates)
-    × (step o m T c .machine .«channels_at» ≡ m .«channels_at» + wordsOf (workOf o (publicOf m)))
-    × (step o m T c .machine .«dealer_at» ≡ m .«dealer_at» + itemsOf (workOf o (publicOf m)))
+    × (step o m T c .machine .«channels_at» ≡ m .«channels_at» + wordsIn (workOf o (publicOf m)))
+    × (step o m T c .machine .«dealer_at» ≡ m .«dealer_at» + itemsIn (workOf o (publicOf m)))
 
 -- "Each answer carries the number of gates spent": those of the order's circuit
 abbrev pub GatesAnswered : Type 0
@@ -106,16 +106,21 @@ GatesCounted = (o : Order) (m : Machine) (T : Tapes) (c : Place → List ℕ)
     → step o m T c .gates ≡ gatesFor o (publicOf m)
 
 -- the register that an order writes: 16 where it writes none
-abbrev pub destination : Work → ℕ
-destination (deals d e v) = d
-destination (adjusts C d x y kind) = d
-destination (computes C d x y kind) = d
-destination (opens x) = 16
+abbrev pub destination : Order → ℕ
+destination (Deal d e v) = d
+destination (Add d x y) = d
+destination (Scale d x c) = d
+destination (Multiply d x y) = d
+destination (Decompose d x l) = d
+destination (Convert d x f) = d
+destination (Shift d x s) = d
+destination (Compose d x f) = d
+destination (Open x) = 16
 
 -- every other register stands
 abbrev pub OthersStand : Type 0
 OthersStand = (o : Order) (m : Machine) (T : Tapes) (c : Place → List ℕ) (k : ℕ)
-    → (k ≡ destination (workOf o (publicOf m)) → ⊥)
+    → (k ≡ destination o → ⊥)
     → registerAt (step o m T c .machine) k ≡ registerAt m k
 
 -- "all else there stays": channels keep their lengths, and every word before the position or after the words written
@@ -123,18 +128,23 @@ abbrev pub ChannelsStand : Type 0
 ChannelsStand = (o : Order) (m : Machine) (T : Tapes) (c : Place → List ℕ) (i : Place)
     → (length (step o m T c .channels i) ≡ length (c i))
     × ((k : ℕ) → k < m .«channels_at» → getD (step o m T c .channels i) k 0 ≡ getD (c i) k 0)
-    × ((k : ℕ) → m .«channels_at» + wordsOf (workOf o (publicOf m)) ≤ k → getD (step o m T c .channels i) k 0 ≡ getD (c i) k 0)
+    × ((k : ℕ) → m .«channels_at» + wordsIn (workOf o (publicOf m)) ≤ k → getD (step o m T c .channels i) k 0 ≡ getD (c i) k 0)
 
-abbrev pub isOpening : Work → Bool
-isOpening (deals d e v) = false
-isOpening (adjusts C d x y kind) = false
-isOpening (computes C d x y kind) = false
-isOpening (opens x) = true
+abbrev pub isOpening : Order → Bool
+isOpening (Deal d e v) = false
+isOpening (Add d x y) = false
+isOpening (Scale d x c) = false
+isOpening (Multiply d x y) = false
+isOpening (Decompose d x l) = false
+isOpening (Convert d x f) = false
+isOpening (Shift d x s) = false
+isOpening (Compose d x f) = false
+isOpening (Open x) = true
 
 -- "An accepted one answers value 0 unless it opens"; a refused order's value and gates are `Unchanged`'s
 abbrev pub ValueAnswered : Type 0
 ValueAnswered = (o : Order) (m : Machine) (T : Tapes) (c : Place → List ℕ)
-    → isOpening (workOf o (publicOf m)) ≡ false
+    → isOpening o ≡ false
     → step o m T c .value ≡ 0
 
 -- an accepted opening: "the answer is the value"
@@ -155,7 +165,7 @@ abbrev pub KindLeft : Type 0
 KindLeft = (o : Order) (m : Machine) (T : Tapes) (c : Place → List ℕ)
     → step o m T c .refusal ≡ 0
     → length (m .slots) ≡ 16
-    → kindAt (publicOf (step o m T c .machine)) (destination (workOf o (publicOf m))) ≡ kindLeft (workOf o (publicOf m))
+    → kindAt (publicOf (step o m T c .machine)) (destination o) ≡ kindLeft (workOf o (publicOf m))
 
 -- what each accepted order leaves in d, as a value: a is the value of register x just before, b that of register y
 abbrev pub valueAt : Machine → ℕ → ℕ

@@ -15,9 +15,10 @@ use Rattle.machine.specs.Work.{Work, adjusts, computes, deals, opens, workOf}
 use Rattle.machine.specs.declared.orders.Order.{Order}
 use Rattle.machine.specs.declared.orders.Order.the-variants.{Add, Compose, Convert, Deal, Decompose, Multiply, Open, Scale, Shift}
 use Rattle.machine.specs.declared.registers.Machine.{Machine}
+use Rattle.act.specs.Acts as acts
 use Rattle.act.specs.Lawful.{AlikeWork, NarrowWork, more, none}
 use Rattle.act.specs.Lawful as lawful
-use Rattle.outcome.specs.Theorems.{destination, valueAt}
+use Rattle.outcome.specs.Theorems.{destination, isOpening, valueAt}
 use Rattle.outcome.proofs.AcceptLaw.{accepted}
 use Rattle.outcome.proofs.CheckLaw.{Passed}
 use Rattle.outcome.proofs.KindLaw.{zero-below}
@@ -62,6 +63,18 @@ number-apart-works (Convert d x f) p = lawful.same
 number-apart-works (Shift d x s) p = lawful.same
 number-apart-works (Compose d x f) p = lawful.same
 number-apart-works (Open x) p = lawful.same
+
+-- it opens where its work does
+pub opening-is : (o : Order) (p : Public) → isOpening o ≡ acts.isOpening (workFor p (workOf o p))
+opening-is (Deal d e v) p = refl
+opening-is (Add d x y) p = refl
+opening-is (Scale d x c) p = refl
+opening-is (Multiply d x y) p = refl
+opening-is (Decompose d x l) p = refl
+opening-is (Convert d x f) p = refl
+opening-is (Shift d x s) p = refl
+opening-is (Compose d x f) p = refl
+opening-is (Open x) p = refl
 
 -- the moduli of its gates, or of a deal, are below 2^61
 pub moduli-narrow : (o : Order) (p : Public) → Passed (kindChecks o p) → NarrowWork (workFor p (workOf o p))
@@ -115,7 +128,7 @@ same-small o m n same small x lifts = subst₂ (λ (v w : ℕ). Small v (modulus
 module _ (m n : Machine) (T T′ : Tapes) (c c′ : Place → List ℕ) (same : Same m n) where
   -- the value that an order leaves in its register
   pub same-left : (o : Order) → step o m T c .refusal ≡ 0 → step o n T′ c′ .refusal ≡ 0 → TakesSmall o m
-      → valueAt (step o m T c .machine) (destination (workOf o (publicOf m))) ≡ valueAt (step o n T′ c′ .machine) (destination (workOf o (publicOf m)))
+      → valueAt (step o m T c .machine) (destination o) ≡ valueAt (step o n T′ c′ .machine) (destination o)
   same-left (Deal d e v) ok ok′ small =
       deal-leaves d e v m T c ok (same .left .slots) ∙ sym (deal-leaves d e v n T′ c′ ok′ (same .right .slots))
   same-left (Add d x y) ok ok′ small =

@@ -28,13 +28,11 @@ keeps-same o m n T T′ c c′ same ok ok′ small =
       left = keeps-good o m T c (same .left) ok;
       right = keeps-good o n T′ c′ (same .right) ok′;
       public = step-public o m T c ok ∙ ap (λ (p : Public). publicBy (workOf o p) p) (same .public) ∙ sym (step-public o n T′ c′ ok′);
-      values = λ k. go k (eqb k (destination (workOf o (publicOf m)))) refl;
+      values = λ k. go k (eqb k (destination o)) refl;
     }
   where
-    go : (k : ℕ) (b : Bool) → eqb k (destination (workOf o (publicOf m))) ≡ b → valueAt (step o m T c .machine) k ≡ valueAt (step o n T′ c′ .machine) k
-    go k true e = rw (eqb-true k (destination (workOf o (publicOf m))) e) (same-left m n T T′ c c′ same o ok ok′ small)
+    go : (k : ℕ) (b : Bool) → eqb k (destination o) ≡ b → valueAt (step o m T c .machine) k ≡ valueAt (step o n T′ c′ .machine) k
+    go k true e = rw (eqb-true k (destination o) e) (same-left m n T T′ c c′ same o ok ok′ small)
     go k false e =
-        let other = eqb-false k (destination (workOf o (publicOf m))) e in
-        let other′ : k ≡ destination (workOf o (publicOf n)) → ⊥
-        = λ q. other (q ∙ ap (λ (p : Public). destination (workOf o p)) (sym (same .public))) in
-        ap valueOf (others-stand o m T c k other) ∙ same .values k ∙ sym (ap valueOf (others-stand o n T′ c′ k other′))
+        let other = eqb-false k (destination o) e in
+        ap valueOf (others-stand o m T c k other) ∙ same .values k ∙ sym (ap valueOf (others-stand o n T′ c′ k other))

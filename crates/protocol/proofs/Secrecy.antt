@@ -7,23 +7,19 @@ use native.Mathlib.Omega.{arith}
 use Rattle.gate.specs.Places.{Place}
 use Rattle.machine.specs.Checks.{Tapes}
 use Rattle.machine.specs.Registers.{emptyMachine, publicOf, sound, soundRegister, soundSlots}
-use Rattle.machine.specs.Registers as registers
 use Rattle.machine.specs.Step.{step}
 use Rattle.machine.specs.Step as steps
-use Rattle.machine.specs.Work.{workOf}
-use Rattle.machine.specs.Work as works
 use Rattle.machine.specs.declared.orders.Order.{Order}
 use Rattle.machine.specs.declared.registers.Machine.{Machine}
-use Rattle.act.specs.Acts as acts
 use Rattle.act.specs.Runs.{AtStart, RunsActs}
 use Rattle.act.proofs.Secrecy.{secrecy-of}
-use Rattle.outcome.specs.Theorems.{isOpening}
 use Rattle.outcome.proofs.AcceptLaw.{refused-is}
 use Rattle.outcome.proofs.Theorems.{keeps-sound}
-use Rattle.protocol.specs.Acts.{Column, Kinds, actOf, publicFrom, sharedOf, workFor}
+use Rattle.protocol.specs.Acts.{Column, Kinds, actOf, publicFrom, sharedOf}
 use Rattle.protocol.specs.Orders.{OrdersSecret, orders, seenOf}
 use Rattle.protocol.specs.Same.{Good}
 use Rattle.protocol.proofs.Lawful.{SameData, alike-acts, same-public, small-is}
+use Rattle.protocol.proofs.OrderLaw.{opening-is}
 use Rattle.protocol.proofs.StepLaw.{step-is}
 
 pub sound-after : (o : Order) (m : Machine) (T : Tapes) (c : Place → List ℕ) → sound m ≡ true → sound (step o m T c .machine) ≡ true
@@ -32,12 +28,6 @@ sound-after o m T c s = go (step o m T c .refusal) refl
     go : (n : ℕ) → step o m T c .refusal ≡ n → sound (step o m T c .machine) ≡ true
     go zero e = keeps-sound o m T c e
     go (suc n) e = ap (λ (x : steps.Outcome). sound (x .machine)) (refused-is o m T c (λ z. omega arith)) ∙ s
-
-pub opening-is : (p : registers.Public) (w : works.Work) → isOpening w ≡ acts.isOpening (workFor p w)
-opening-is p (works.deals d e v) = refl
-opening-is p (works.adjusts C d x y kind) = refl
-opening-is p (works.computes C d x y kind) = refl
-opening-is p (works.opens x) = refl
 
 pub empty-good : Good emptyMachine
 unfolding emptyMachine sound soundSlots soundRegister
@@ -63,7 +53,7 @@ orders-run-acts =
       good-after = sound-after;
       number-is = λ o m r. refl;
       small-is = λ o m s. small-is o m;
-      opening-is = λ o m. opening-is (publicOf m) (workOf o (publicOf m));
+      opening-is = λ o m. opening-is o (publicOf m);
       AlikePlans = λ σ τ. Unit {0};
       alike = λ o o′ σ τ a h. alike-acts o o′ a;
       alike-onward = λ o o′ σ τ a h. tt;

@@ -7,7 +7,6 @@ use Rattle.gate.specs.Places.{Place, next, parts}
 use Rattle.machine.specs.Registers.{Kind, Public, emptyMachine, kindAt, publicOf, registerAt, sharesOf, widthAt}
 use Rattle.machine.specs.Step.{step, valueOf}
 use Rattle.machine.specs.Step as steps
-use Rattle.machine.specs.Work.{workOf}
 use Rattle.machine.specs.declared.orders.Order.{Order}
 use Rattle.machine.specs.declared.orders.Order.the-variants.{Add, Compose, Convert, Deal, Decompose, Multiply, Open, Scale, Shift}
 use Rattle.machine.specs.declared.registers.Machine.{Machine}
@@ -90,7 +89,7 @@ orders =
       NumberRefused = λ o m refusal. RefusedNumber o refusal;
       Small = TakesSmall;
       -- "What a run opens is the values answered by its accepted openings"
-      opening = λ o m. isOpening (workOf o (publicOf m));
+      opening = λ o m. isOpening o;
       -- "alike in all but the numbers dealt"
       Alike = λ o o′. withoutNumber o ≡ withoutNumber o′;
       -- what is equal in a run and its image beside channels and answers
