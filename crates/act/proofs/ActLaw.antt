@@ -18,10 +18,10 @@ use Rattle.machine.specs.Checks.{Lengths, Tapes, anyBad, anyOutside}
 use Rattle.machine.specs.Step.{lengthsOf, written}
 use Rattle.machine.proofs.KindLaw.{neither}
 use Rattle.machine.proofs.WrittenLaw.{empty-of, nothing-written}
-use Rattle.act.specs.Acts.{Act, performed, refusalBy, refusalOf, refused, step}
-use Rattle.act.specs.Jobs.{Outcome}
+use Rattle.act.specs.Acts.{Act, performed, refusalBy, refusalOf, step}
+use Rattle.act.specs.Jobs.{Outcome, refused}
 use Rattle.act.specs.Lawful.{Lends}
-use Rattle.act.specs.Works.{Public, Shared, Work, badItem, begun, deals, gatesIn, leftOf, opens, runs, wordsFrom, wordsIn}
+use Rattle.act.specs.Works.{Public, Shared, Work, badItem, begun, deals, evaluates, gatesIn, leftOf, opens, wordsFrom, wordsIn}
 use Rattle.act.proofs.WorkLaw.{Inside}
 
 -- an act that is not refused is not refused for what is public, nor for an item
@@ -76,7 +76,9 @@ module _ {E D : Type 0} (a : Act E D) (m : Shared E D) (T : Tapes) (c : Place �
 
   -- 10 apart, the refusal is public
   pub public-refusal : (step a m T c .refusal ≡ 10 → ⊥) → step a m T c .refusal ≡ a .refusal (m .public) (lengthsOf T c)
-  public-refusal h = refusal-is ∙ public-aside _ _ (λ e. h (refusal-is ∙ e))
+  public-refusal h =
+      let q = m .public in
+      refusal-is ∙ public-aside (a .refusal q (lengthsOf T c)) (badItem (a .work q) (leftOf q T)) (λ e. h (refusal-is ∙ e))
 
 -- items that no test meets are in range
 in-range : (ms items : List ℕ) → length ms ≤ length items → anyOutside ms items ≡ false → Fits ms (take (length ms) items)
@@ -124,7 +126,7 @@ module _ {E D : Type 0} where
   pub masks-lent : (w : Work E D) (q : Public E) (len : Lengths) (i : Place) → Lends w q len
       → (gatesIn w ≡ 0) ⊎ (q .masksAt + gatesIn w ≤ len .masks i)
   masks-lent (deals rest p v put) q len i lend = inl refl
-  masks-lent (runs rest R) q len i lend = ⊎-elim (λ z. inl (ap length z)) (λ r. inr (r i .0)) lend
+  masks-lent (evaluates rest R) q len i lend = ⊎-elim (λ z. inl (ap length z)) (λ r. inr (r i .0)) lend
   masks-lent (opens rest read value) q len i lend = inl refl
 
   -- an accepted act's items are in range
@@ -135,7 +137,7 @@ module _ {E D : Type 0} where
       let left = drop (q .dealerAt) (T .dealer) in
       let both = neither (leb p (getD left 0 0)) (leb p (getD left 1 0)) e₀ in
       (leb-false _ _ (both .0), leb-false _ _ (both .1), left-long (q .dealerAt) 2 (T .dealer) lend)
-  inside-by (runs rest R) q T c lend e₀ =
+  inside-by (evaluates rest R) q T c lend e₀ =
       let G = R .gates in
       let out : Place → Bool = λ i. anyOutside (moduli G) (leftOf q T .masks i) in
       let one = neither (out p0) (out p1 || out p2) e₀ in
@@ -152,7 +154,7 @@ module _ {E D : Type 0} where
   pub inside-passes : (w : Work E D) (left : Tapes) → Inside w left → badItem w left ≡ false
   unfolding anyBad
   inside-passes (deals rest p v put) left inside = both-false (lt-leb _ _ (inside .0)) (lt-leb _ _ (inside .1))
-  inside-passes (runs rest R) left inside =
+  inside-passes (evaluates rest R) left inside =
       both-false (gates-inside (R .gates) (left .masks p0) (inside p0))
       (both-false (gates-inside (R .gates) (left .masks p1) (inside p1)) (gates-inside (R .gates) (left .masks p2) (inside p2)))
   inside-passes (opens rest read value) left inside = refl
@@ -170,13 +172,13 @@ module _ {E D : Type 0} where
   words-many : (w : Work E D) (s : Place → D) (left : Tapes) (i : Place) → length (wordsFrom w s left i) ≡ wordsIn w
   unfolding wordsFrom
   words-many (deals rest p v put) s left i = refl
-  words-many (runs rest R) s left i = length-sent (R .gates) (begun R s) (left .masks) i
+  words-many (evaluates rest R) s left i = length-sent (R .gates) (begun R s) (left .masks) i
   words-many (opens rest read value) s left i = refl
 
   words-lent : (w : Work E D) (q : Public E) (T : Tapes) (c : Place → List ℕ) (i : Place) → Lends w q (lengthsOf T c)
       → (wordsIn w ≡ 0) ⊎ (q .channelsAt + wordsIn w ≤ length (c i))
   words-lent (deals rest p v put) q T c i lend = inl refl
-  words-lent (runs rest R) q T c i lend =
+  words-lent (evaluates rest R) q T c i lend =
       ⊎-elim (λ z. inl (ap length z)) (λ r. inr (rw (← (tabled-at (λ j. length (c j)) i)) (r i .1))) lend
   words-lent (opens rest read value) q T c i lend = inr (rw (← (tabled-at (λ j. length (c j)) i)) (lend i))
 

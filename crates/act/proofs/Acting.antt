@@ -9,12 +9,12 @@ use Rattle.view.proofs.AroundLaw.{around-far, around-lacked, around-own, each-a
 use Rattle.machine.specs.Checks.{Tapes}
 use Rattle.act.specs.Changes.{Changed}
 use Rattle.act.specs.Jobs.{Alike, AlikeLists, Entry, Fair, IsRun, Job, Words, views}
+use Rattle.act.specs.Jobs as jobs
 use Rattle.act.specs.Lawful.{Sameness, acting}
 use Rattle.act.specs.Own.{ownOf}
-use Rattle.act.specs.Runs.{AtStart, KeepsPublic}
+use Rattle.act.specs.Performs.{AtStart, KeepsPublic}
 use Rattle.act.specs.Secrecy.{Hidden, Hides, Meet, Secrecy, tapesWith}
 use Rattle.act.specs.Works.{Shared}
-use Rattle.act.specs.Jobs as jobs
 use Rattle.act.proofs.Forward.{forward}
 use Rattle.act.proofs.InverseLaw.{change, inverse, unique}
 use Rattle.act.proofs.LeftLaw.{EvenTapes}

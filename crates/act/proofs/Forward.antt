@@ -9,16 +9,16 @@ use Rattle.gate.specs.Places.{Place}
 use Rattle.view.specs.Views.{lackedBy}
 use Rattle.machine.specs.Checks.{Tapes}
 use Rattle.machine.specs.Step.{lengthsOf}
-use Rattle.act.specs.Acts.{isOpening, performed, refusalBy, refused}
+use Rattle.act.specs.Acts.{isOpening, performed, refusalBy}
 use Rattle.act.specs.Changes.{Changed, before, differ, end, go, item, itemsK, nextK, outcomeJ, restOf, skip}
-use Rattle.act.specs.Jobs.{AlikeEntries, AlikeLists, Entry, FairAct, FairFrom, Outcome, View, courseFrom, lent, openedFrom, outcome, view, viewOf}
+use Rattle.act.specs.Jobs.{AlikeEntries, AlikeLists, Entry, FairAct, FairFrom, Outcome, View, courseFrom, lent, openedFrom, outcome, refused, view, viewOf}
+use Rattle.act.specs.Jobs as jobs
 use Rattle.act.specs.Lawful.{AlikeWork, Holding, Sameness, acting, toldAt}
+use Rattle.act.specs.Lawful as lawful
 use Rattle.act.specs.Own.{Own, ownOf}
-use Rattle.act.specs.Runs.{KeepsPublic}
+use Rattle.act.specs.Performs.{KeepsPublic}
 use Rattle.act.specs.Secrecy.{Hidden, tapesWith}
 use Rattle.act.specs.Works.{Shared, Work, badItem, leftOf, valueFrom}
-use Rattle.act.specs.Jobs as jobs
-use Rattle.act.specs.Lawful as lawful
 use Rattle.act.proofs.ActLaw.{done-is, public-refusal, refusal-is, refused-is}
 use Rattle.act.proofs.GoLaw.{doneK′, inside, left-by, nextK-is, partner, rest-after}
 use Rattle.act.proofs.InverseLaw.{kept-refusal, outcome-long}

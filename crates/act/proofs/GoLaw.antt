@@ -16,10 +16,10 @@ use Rattle.act.specs.Acts.{Act, performed, refusalBy, step}
 use Rattle.act.specs.Changes.{before, decoded, itemsK, leftJ, leftK, nextK, outcomeJ, outcomeK, restOf, workJ, workK}
 use Rattle.act.specs.Jobs.{AlikeEntries, Entry, Outcome, Protocol, lent, outcome}
 use Rattle.act.specs.Lawful.{AlikeWork, Lawful, Lends, Sameness, acting}
+use Rattle.act.specs.Lawful as lawful
 use Rattle.act.specs.Own.{handedOf}
 use Rattle.act.specs.Secrecy.{Hidden, tapesWith}
-use Rattle.act.specs.Works.{Public, Shared, Work, badItem, deals, gatesIn, itemsIn, leftOf, opens, publicAfter, runs, wordsFrom}
-use Rattle.act.specs.Lawful as lawful
+use Rattle.act.specs.Works.{Public, Shared, Work, badItem, deals, evaluates, gatesIn, itemsIn, leftOf, opens, publicAfter, wordsFrom}
 use Rattle.act.proofs.ActLaw.{done-is, inside-by, inside-passes, masks-lent, passed, refusal-is}
 use Rattle.act.proofs.LeftLaw.{SameLengths, left-far, left-first, left-lacked, left-own, lengths-beside}
 use Rattle.act.proofs.LevelLaw.{Level, after-alike, length-decode, works-alike}
@@ -32,14 +32,14 @@ module _ {E D : Type 0} where
       → length (decoded U w n t t′ W h .dealer) ≡ itemsIn w
   unfolding decoded
   decoded-dealer U (deals rest p v put) n t t′ W h = refl
-  decoded-dealer U (runs rest R) n t t′ W h = refl
+  decoded-dealer U (evaluates rest R) n t t′ W h = refl
   decoded-dealer U (opens rest read value) n t t′ W h = refl
 
   pub decoded-lacked : (U : Place) (w : Work E D) (n : Place → D) (t t′ W : List ℕ) (h : Pair)
       → length (decoded U w n t t′ W h .lacked) ≡ gatesIn w
   unfolding decoded
   decoded-lacked U (deals rest p v put) n t t′ W h = refl
-  decoded-lacked U (runs rest R) n t t′ W h = length-decode U (R .gates) _ t t′ W
+  decoded-lacked U (evaluates rest R) n t t′ W h = length-decode U (R .gates) _ t t′ W
   decoded-lacked U (opens rest read value) n t t′ W h = refl
 
   -- ranges do not go by the number dealt
@@ -51,7 +51,7 @@ module _ {E D : Type 0} where
   dealer-lent : (w : Work E D) (q : Public E) (len : Lengths) → Lends w q len
       → (itemsIn w ≡ 0) ⊎ (q .dealerAt + itemsIn w ≤ len .dealer)
   dealer-lent (deals rest p v put) q len lend = inr lend
-  dealer-lent (runs rest R) q len lend = inl refl
+  dealer-lent (evaluates rest R) q len lend = inl refl
   dealer-lent (opens rest read value) q len lend = inl refl
 
 -- the items taken from a lent tape are the first that are left
@@ -118,9 +118,9 @@ module _ {E D : Type 0} where
   unfolding decoded
   back-by U (deals rest p v put) w′ m n left left′ alike inside partner =
       rw (handed-same U (deals rest p v put) w′ m n left left′ alike inside partner) (decoded-back U (deals rest p v put) (m .share) left inside)
-  back-by U (runs rest R) w′ m n left left′ alike inside partner =
-      rw (partner .own, partner .far, received-same U (runs rest R) w′ m n left left′ alike inside tt partner)
-      (decoded-back U (runs rest R) (m .share) left inside)
+  back-by U (evaluates rest R) w′ m n left left′ alike inside partner =
+      rw (partner .own, partner .far, received-same U (evaluates rest R) w′ m n left left′ alike inside tt partner)
+      (decoded-back U (evaluates rest R) (m .share) left inside)
   back-by U (opens rest read value) w′ m n left left′ alike inside partner = refl
 
 -- how much is lent of the tape that U lacks

@@ -12,10 +12,10 @@ use Rattle.machine.specs.Step.{lengthsOf}
 use Rattle.act.specs.Acts.{refusalBy}
 use Rattle.act.specs.Changes.{Changed, before, differ, end, go, item, itemsK, nextK, outcomeJ, outcomeK, restOf, skip}
 use Rattle.act.specs.Jobs.{AlikeEntries, AlikeLists, Entry, Outcome, lent, outcome}
+use Rattle.act.specs.Jobs as jobs
 use Rattle.act.specs.Lawful.{Lawful, Sameness, acting}
 use Rattle.act.specs.Secrecy.{Hidden, tapesWith}
 use Rattle.act.specs.Works.{Public, Shared, badItem, leftOf}
-use Rattle.act.specs.Jobs as jobs
 use Rattle.act.proofs.ActLaw.{channels-long, done-is, passed, refusal-is}
 use Rattle.act.proofs.GoLaw.{doneJ′, doneK′, items-back, nextJ-is, nextK-is, public-kept, rest-after, rest-before}
 use Rattle.act.proofs.LeftLaw.{SameLengths, left-same-rest, lengths-beside}

@@ -8,8 +8,8 @@ use Rattle.circuit.specs.Circuits.{Gate}
 use Rattle.view.specs.Views.{decode}
 use Rattle.act.specs.Acts.{Act}
 use Rattle.act.specs.Lawful.{AlikeActs, AlikeWork, Sameness}
-use Rattle.act.specs.Works.{Public, Shared, Work, publicAfter}
 use Rattle.act.specs.Lawful as lawful
+use Rattle.act.specs.Works.{Public, Shared, Work, publicAfter}
 
 -- with channels of the same lengths
 pub record Level {E D : Type 0} (m n : Shared E D) (c d : Place → List ℕ) : Type 0 where

@@ -15,12 +15,12 @@ use Rattle.view.specs.Views.{lackedBy}
 use Rattle.machine.specs.Checks.{Lengths, Tapes, anyBad, anyOutside}
 use Rattle.machine.specs.Step.{lengthsOf, written}
 use Rattle.machine.proofs.WrittenLaw.{nothing-written}
-use Rattle.act.specs.Acts.{Act, performed, refusalBy, refused, step}
-use Rattle.act.specs.Jobs.{Outcome}
+use Rattle.act.specs.Acts.{Act, firstOf, performed, refusalBy, step}
+use Rattle.act.specs.Jobs.{Outcome, refused}
 use Rattle.act.specs.Lawful.{AlikeWork, Lends, NarrowWork, toldAt}
-use Rattle.act.specs.Lifting.{InBoth, KeepsSecond, LiftAlike, LiftLawful, LiftStep, RewriteLawful, RewriteStep, firstOf, firstPart, firstPublic, joined, liftAct, liftWork, rewriteAct, rewriting, rewritten, rewrote, secondAfter, withSecond}
-use Rattle.act.specs.Works.{Public, Shared, Work, badItem, deals, gatesIn, leftOf, opens, runs, sharesAfter, valueFrom, wordsFrom}
 use Rattle.act.specs.Lawful as lawful
+use Rattle.act.specs.Lifting.{BothPublic, InBoth, KeepsSecond, LiftAlike, LiftLawful, LiftOpening, LiftStep, RewriteLawful, RewriteStep, firstPart, firstPublic, joined, liftAct, liftWork, rewriteAct, rewriting, rewritten, rewrote, secondAfter, secondPart, withSecond}
+use Rattle.act.specs.Works.{Public, Shared, Work, badItem, deals, evaluates, gatesIn, leftOf, opens, sharesAfter, valueFrom, wordsFrom}
 use Rattle.act.proofs.ActLaw.{done-is, passed, refusal-is}
 use Rattle.act.proofs.WorkLaw.{gates-alike}
 
@@ -72,27 +72,27 @@ rewrite-lawful E D refusal rest f Same keeps =
 module _ {E E′ D : Type 0} (D′ : Type 0) (e : E′) where
   lift-lends : (w : Work E D) (q : Public (E × E′)) (len : Lengths) → Lends w (firstPublic q) len → Lends (liftWork {D′ = D′} e w) q len
   lift-lends (deals rest p v put) q len h = h
-  lift-lends (runs rest R) q len h = h
+  lift-lends (evaluates rest R) q len h = h
   lift-lends (opens rest read value) q len h = h
 
   lift-narrow : (w : Work E D) → NarrowWork w → NarrowWork (liftWork {D′ = D′} e w)
   lift-narrow (deals rest p v put) h = h
-  lift-narrow (runs rest R) h = h
+  lift-narrow (evaluates rest R) h = h
   lift-narrow (opens rest read value) h = h
 
   lift-items : (w : Work E D) (left : Tapes) → badItem (liftWork {D′ = D′} e w) left ≡ badItem w left
   lift-items (deals rest p v put) left = refl
-  lift-items (runs rest R) left = refl
+  lift-items (evaluates rest R) left = refl
   lift-items (opens rest read value) left = refl
 
   lift-value : (w : Work E D) (s : Place → D × D′) → valueFrom (liftWork e w) s ≡ valueFrom w (λ i. s i .0)
   lift-value (deals rest p v put) s = refl
-  lift-value (runs rest R) s = refl
+  lift-value (evaluates rest R) s = refl
   lift-value (opens rest read value) s = refl
 
   lift-told : (w : Work E D) (s : Place → D × D′) (i : Place) → toldAt (liftWork e w) s i ≡ toldAt w (λ j. s j .0) i
   lift-told (deals rest p v put) s i = refl
-  lift-told (runs rest R) s i = refl
+  lift-told (evaluates rest R) s i = refl
   lift-told (opens rest read value) s i = refl
 
   lift-works : {w w′ : Work E D} → AlikeWork w w′ → AlikeWork (liftWork {D′ = D′} e w) (liftWork e w′)
@@ -105,16 +105,16 @@ module _ {E E′ D : Type 0} (D′ : Type 0) (e : E′) where
   lift-shares (deals rest p v put) s left p0 = refl
   lift-shares (deals rest p v put) s left p1 = refl
   lift-shares (deals rest p v put) s left p2 = refl
-  lift-shares (runs rest R) s left p0 = refl
-  lift-shares (runs rest R) s left p1 = refl
-  lift-shares (runs rest R) s left p2 = refl
+  lift-shares (evaluates rest R) s left p0 = refl
+  lift-shares (evaluates rest R) s left p1 = refl
+  lift-shares (evaluates rest R) s left p2 = refl
   lift-shares (opens rest read value) s left i = refl
 
   lift-performed : (w : Work E D) (m : Shared (E × E′) (D × D′)) (left : Tapes) (c : Place → List ℕ)
       → performed (liftWork e w) m left c ≡ withSecond (λ n. e) m (performed w (firstPart m) left c)
   unfolding wordsFrom
   lift-performed (deals rest p v put) m left c = rw (fun-ext (lift-shares (deals rest p v put) (m .share) left))
-  lift-performed (runs rest R) m left c = rw (fun-ext (lift-shares (runs rest R) (m .share) left))
+  lift-performed (evaluates rest R) m left c = rw (fun-ext (lift-shares (evaluates rest R) (m .share) left))
   lift-performed (opens rest read value) m left c = rw (fun-ext (lift-shares (opens rest read value) (m .share) left))
 
 -- an act is allowed on the first part where the lifted one is
@@ -238,3 +238,15 @@ lift-alike E E′ D D′ Same Same′ earlier after a b alike keeps =
         → (a .NumberRefused (firstOf n r) → ⊥) → (b .NumberRefused (firstOf n r′) → ⊥) → firstOf n r ≡ firstOf n r′
     by zero same x y = same x y
     by (suc n) same x y = refl
+
+pub lift-opening : LiftOpening
+lift-opening E E′ D D′ e (deals rest p v put) = refl
+lift-opening E E′ D D′ e (evaluates rest R) = refl
+lift-opening E E′ D D′ e (opens rest read value) = refl
+
+pub both-public : BothPublic
+both-public E E′ D D′ Same Same′ first second m n i =
+    ap₂ beside (first (firstPart m) (firstPart n) (i .first)) (second (secondPart m) (secondPart n) (i .second))
+  where
+    beside : Public E → E′ → Public (E × E′)
+    beside q e = record { rest = (q .rest, e); masksAt = q .masksAt; channelsAt = q .channelsAt; dealerAt = q .dealerAt }

@@ -11,10 +11,10 @@ use Rattle.view.proofs.Theorems.{sent-causal}
 use Rattle.machine.specs.Checks.{Tapes}
 use Rattle.act.specs.Jobs.{Outcome}
 use Rattle.act.specs.Lawful.{AlikeWork}
-use Rattle.act.specs.Local.{ActAnswer, ActCausal, ActOwn, SendsCausally}
-use Rattle.act.specs.Own.{Brought, Own, answer, brought, broughtBy, ownAnswer, ownOf, ownStarts, ownStep, ownValue, ownWords}
-use Rattle.act.specs.Works.{Shared, Work, deals, gatesIn, leftOf, opens, runs, sharesRead, valueFrom, wordsFrom}
 use Rattle.act.specs.Lawful as lawful
+use Rattle.act.specs.Local.{ActAnswer, ActCausal, ActOwn, WorkCausal}
+use Rattle.act.specs.Own.{Brought, Own, answer, brought, broughtBy, ownAnswer, ownOf, ownStarts, ownStep, ownValue, ownWords}
+use Rattle.act.specs.Works.{Shared, Work, deals, evaluates, gatesIn, leftOf, opens, sharesRead, valueFrom, wordsFrom}
 use Rattle.act.proofs.ActLaw.{step-by}
 use Rattle.act.proofs.OwnLaw.{words-local, work-local}
 
@@ -36,7 +36,7 @@ value-own : {E D : Type 0} (U : Place) (w : Work E D) (m : Shared E D) (left : T
     → valueFrom w (m .share) ≡ ownValue U w (ownOf U m c) (brought U w (m .share) left)
 unfolding wordsFrom
 value-own U (deals rest p v put) m left c = refl
-value-own U (runs rest R) m left c = refl
+value-own U (evaluates rest R) m left c = refl
 value-own U (opens rest read value) m left c = ap value (all-three U read (m .share))
 
 pub act-answer : ActAnswer
@@ -47,27 +47,27 @@ act-answer E D U a m T c =
     (ap (λ (v : ℕ). answer v (gatesIn w)) (value-own U w m (leftOf (m .public) T) c))
     (λ n. rw (ne-eqb (suc n) 0 (λ z. omega arith)))
 
-pub act-causal : ActCausal
+pub work-causal : WorkCausal
 unfolding ownWords
-act-causal E D U (deals rest p v put) P B B′ k same = refl
-act-causal E D U (runs rest R) P B B′ k same =
-    let h = ownStarts R (P .own) (P .far) in
+work-causal E D U (deals rest p v put) own far B B′ k same = refl
+work-causal E D U (evaluates rest R) own far B B′ k same =
+    let h = ownStarts R own far in
     sent-causal (R .State) U (R .gates) h (B .own) (B .far) (B .received) (B′ .received) k (same .received)
     ∙ ap₂ (λ (t t′ : List ℕ). take (suc k) (ownSent U (R .gates) h t t′ (B′ .received))) (same .own) (same .far)
-act-causal E D U (opens rest read value) P B B′ k same = refl
+work-causal E D U (opens rest read value) own far B B′ k same = refl
 
 words-alike : {E D : Type 0} (U : Place) {w w′ : Work E D} → AlikeWork w w′ → (a b : D) (B : Brought) → ownWords U w a b B ≡ ownWords U w′ a b B
 unfolding ownWords
 words-alike U lawful.same a b B = refl
 words-alike U lawful.number a b B = refl
 
-pub sends-causally : SendsCausally
-sends-causally E D U a b m n T T′ c d k alike own same =
+pub act-causal : ActCausal
+act-causal E D U a b m n T T′ c d k alike own same =
     let w = a .work (m .public) in
     let w′ = b .work (n .public) in
     let B = broughtBy U a m T in
     let B′ = broughtBy U b n T′ in
     ap (take (suc k)) (words-local U (m .share) (leftOf (m .public) T) w ∙ words-alike U alike (m .share U) (m .share (next U)) B)
     ∙ ap (λ (P : Own E D). take (suc k) (ownWords U w′ (P .own) (P .far) B)) own
-    ∙ act-causal E D U w′ (ownOf U n d) B B′ k same
+    ∙ work-causal E D U w′ (n .share U) (n .share (next U)) B B′ k same
     ∙ sym (ap (take (suc k)) (words-local U (n .share) (leftOf (n .public) T′) w′))

@@ -14,10 +14,10 @@ use Rattle.machine.specs.Step.{dealtShares, written}
 use Rattle.act.specs.Acts.{isOpening, performed}
 use Rattle.act.specs.Jobs.{Outcome, view, viewOf}
 use Rattle.act.specs.Lawful.{AlikeWork, Holding, Sameness, acting, toldAt}
-use Rattle.act.specs.Local.{WorkLocal}
-use Rattle.act.specs.Own.{Brought, Own, brought, ownOf, ownPerformed, ownShares, ownStarts, ownWords}
-use Rattle.act.specs.Works.{Public, Run, Shared, Work, begun, deals, opens, runs, sharesAfter, valueFrom, wordsFrom}
 use Rattle.act.specs.Lawful as lawful
+use Rattle.act.specs.Local.{WorkLocal}
+use Rattle.act.specs.Own.{Brought, Own, brought, ownOf, ownPerformed, ownShares, ownStarts, ownValue, ownWords}
+use Rattle.act.specs.Works.{Evaluation, Public, Shared, Work, begun, deals, evaluates, opens, sharesAfter, valueFrom, wordsFrom}
 use Rattle.act.proofs.WorkLaw.{Inside, Partner, handed-same, received-same}
 
 own-equal : {E D : Type 0} {p q : Public E} {o o′ f f′ : D} {s s′ r r′ : List ℕ} → p ≡ q → o ≡ o′ → f ≡ f′ → s ≡ s′ → r ≡ r′
@@ -26,13 +26,13 @@ own-equal : {E D : Type 0} {p q : Public E} {o o′ f f′ : D} {s s′ r r′ :
     (record { public = q; own = o′; far = f′; sends = s′; receives = r′ })
 own-equal a b c d e = rw (a, b, c, d, e)
 
-starts-own : {D : Type 0} (U : Place) (R : Run D) (s : Place → D) → heldStates U (begun R s) ≡ ownStarts R (s U) (s (next U))
+starts-own : {D : Type 0} (U : Place) (R : Evaluation D) (s : Place → D) → heldStates U (begun R s) ≡ ownStarts R (s U) (s (next U))
 starts-own U R s = rw (tabled-at (λ i. R .start (s i)) U, tabled-at (λ i. R .start (s i)) (next U))
 
 module _ {E D : Type 0} (U : Place) (s : Place → D) (left : Tapes) where
-  module _ (rest : E) (R : Run D) where
+  module _ (rest : E) (R : Evaluation D) where
     abbrev received : List ℕ
-    received = wordsFrom (runs rest R) s left (next U)
+    received = wordsFrom (evaluates rest R) s left (next U)
 
     held-is : heldStates U (ends (R .gates) (begun R s) (left .masks))
         ≡ ownEnds U (R .gates) (ownStarts R (s U) (s (next U))) (left .masks U) (left .masks (next U)) received
@@ -41,8 +41,8 @@ module _ {E D : Type 0} (U : Place) (s : Place → D) (left : Tapes) where
         ends-local (R .State) U (R .gates) (begun R s) (left .masks)
         ∙ ap (λ h. ownEnds U (R .gates) h (left .masks U) (left .masks (next U)) received) (starts-own U R s)
 
-    run-local : _≡_ {A = Held D} (record { own = sharesAfter (runs rest R) s left U; far = sharesAfter (runs rest R) s left (next U) })
-        (ownShares U (runs rest R) (s U) (s (next U)) (brought U (runs rest R) s left))
+    run-local : _≡_ {A = Held D} (record { own = sharesAfter (evaluates rest R) s left U; far = sharesAfter (evaluates rest R) s left (next U) })
+        (ownShares U (evaluates rest R) (s U) (s (next U)) (brought U (evaluates rest R) s left))
     unfolding sharesAfter ownShares
     run-local =
         let f : Place → D = λ i. R .finish i (s i) (ends (R .gates) (begun R s) (left .masks) i) in
@@ -59,13 +59,13 @@ module _ {E D : Type 0} (U : Place) (s : Place → D) (left : Tapes) where
   shares-local (deals rest p v put) =
       let z = parts (dealtShares p v (getD (left .dealer) 0 0) (getD (left .dealer) 1 0)) in
       rw (tabled-at (λ i. put (s i) (z i)) U, tabled-at (λ i. put (s i) (z i)) (next U))
-  shares-local (runs rest R) = run-local rest R
+  shares-local (evaluates rest R) = run-local rest R
   shares-local (opens rest read value) = refl
 
   pub words-local : (w : Work E D) → wordsFrom w s left U ≡ ownWords U w (s U) (s (next U)) (brought U w s left)
   unfolding wordsFrom ownWords
   words-local (deals rest p v put) = refl
-  words-local (runs rest R) =
+  words-local (evaluates rest R) =
       sent-local (R .State) U (R .gates) (begun R s) (left .masks)
       ∙ ap (λ h. ownSent U (R .gates) h (left .masks U) (left .masks (next U)) (sent (R .gates) (begun R s) (left .masks) (next U))) (starts-own U R s)
   words-local (opens rest read value) = refl
@@ -86,6 +86,12 @@ unfolding ownShares ownWords
 own-alike U lawful.same P B = refl
 own-alike U lawful.number P B = refl
 
+-- and works out the same value
+pub own-value-alike : {E D : Type 0} (U : Place) {w w′ : Work E D} → AlikeWork w w′ → (P : Own E D) (B : Brought)
+    → ownValue U w P B ≡ ownValue U w′ P B
+own-value-alike U lawful.same P B = refl
+own-value-alike U lawful.number P B = refl
+
 brought-equal : {t t′ t₁ t₁′ W W′ : List ℕ} {h h′ : Pair} → t ≡ t₁ → t′ ≡ t₁′ → W ≡ W′ → h ≡ h′
     → _≡_ {A = Brought} (record { own = t; far = t′; received = W; handed = h }) (record { own = t₁; far = t₁′; received = W′; handed = h′ })
 brought-equal a b p q = rw (a, b, p, q)
@@ -97,7 +103,7 @@ module _ {E D : Type 0} (U : Place) (m n : Shared E D) (c d : Place → List ℕ
       → wordsFrom w′ (n .share) left′ (next U) ≡ wordsFrom w (m .share) left (next U)
   unfolding wordsFrom
   received-equal (deals rest p v put) w′ alike inside told partner = received-same U (deals rest p v put) w′ m n left left′ alike inside tt partner
-  received-equal (runs rest R) w′ alike inside told partner = received-same U (runs rest R) w′ m n left left′ alike inside tt partner
+  received-equal (evaluates rest R) w′ alike inside told partner = received-same U (evaluates rest R) w′ m n left left′ alike inside tt partner
   received-equal (opens rest read value) w′ lawful.same inside told partner = ap (λ (v : ℕ). v ∷ []) (sym told)
 
   pub own-after : (w w′ : Work E D) → AlikeWork w w′ → Inside w left
@@ -117,7 +123,7 @@ module _ {E D : Type 0} (U : Place) (m n : Shared E D) (c d : Place → List ℕ
       ∙ sym (work-local E D U w′ n left′ d)
 
 -- views are equal where all that they show is, field by field
-view-equal : {S : Type 0} {a a′ : S} {w w′ z z′ : List ℕ} {r r′ v v′ g g′ : ℕ} → a ≡ a′ → w ≡ w′ → z ≡ z′ → r ≡ r′ → v ≡ v′ → g ≡ g′
+pub view-equal : {S : Type 0} {a a′ : S} {w w′ z z′ : List ℕ} {r r′ v v′ g g′ : ℕ} → a ≡ a′ → w ≡ w′ → z ≡ z′ → r ≡ r′ → v ≡ v′ → g ≡ g′
     → view a w z r v g ≡ view a′ w′ z′ r′ v′ g′
 view-equal {S} {a} {a′} {w} {w′} {z} {z′} {r} {r′} {v} {v′} {g} {g′} seen sends receives refusal value gates =
     ap (λ (x : S). view x w z r v g) seen
@@ -150,7 +156,7 @@ pub values-equal : {E D : Type 0} (w w′ : Work E D) → AlikeWork w w′ → (
     → (isOpening w ≡ true → valueFrom w s ≡ valueFrom w′ t) → valueFrom w s ≡ valueFrom w′ t
 values-equal (deals rest p v put) w′ lawful.same s t h = refl
 values-equal (deals rest p v put) w′ lawful.number s t h = refl
-values-equal (runs rest R) w′ lawful.same s t h = refl
+values-equal (evaluates rest R) w′ lawful.same s t h = refl
 values-equal (opens rest read value) w′ lawful.same s t h = h refl
 
 pub opening-alike : {E D : Type 0} {w w′ : Work E D} → AlikeWork w w′ → isOpening w ≡ isOpening w′

@@ -2,51 +2,53 @@
 use Prim.Native.Nat.{ℕ}
 use mathlib.Core.Bool.{Bool, cond, _&&_}
 use mathlib.Core.List.{List, [], _∷_, map}
-use mathlib.Core.Path.{_≡_, ap, ap₂, refl, subst, sym, _∙_}
+use mathlib.Core.Path.{_≡_, ap, ap₂, refl, subst, subst₂, sym, transport, _∙_}
 use lib.Dec.{eqb}
+use lib.ListN.{drop, getD}
 use Rattle.gate.specs.Places.{Place, next}
 use Rattle.machine.specs.Checks.{Tapes}
 use Rattle.act.specs.Acts.{step}
-use Rattle.act.specs.Jobs.{Alike, AlikeLists, Entry, FairFrom, Job, Outcome, Protocol, View, Words, courseFrom, lent, openedFrom, outcome, view, viewOf}
+use Rattle.act.specs.Jobs.{Alike, AlikeLists, Entry, FairFrom, Job, Outcome, Protocol, View, Words, courseFrom, lent, openedFrom, outcome, viewOf}
+use Rattle.act.specs.Jobs as jobs
 use Rattle.act.specs.Lawful.{Holding, acting}
-use Rattle.act.specs.Runs.{RunsActs, outcomeBy}
+use Rattle.act.specs.Performs.{PerformsActs, outcomeBy}
 use Rattle.act.specs.Secrecy.{Hidden, Hides, Meet, Secrecy, tapesWith}
 use Rattle.act.specs.Works.{Shared}
-use Rattle.act.specs.Jobs as jobs
 use Rattle.act.proofs.Acting.{acting-secrecy}
 use Rattle.act.proofs.Acting as acts
 use Rattle.act.proofs.InverseLaw.{change}
+use Rattle.act.proofs.OwnLaw.{view-equal}
 
--- a type is another
-turned {ℓ} : {A B : Type ℓ} → A ≡ B → A → B
-turned p a = subst (λ X. X) p a
+-- equal lists have equal heads
+head-same : {A : Type 0} {x y : A} {l l′ : List A} → x ∷ l ≡ y ∷ l′ → x ≡ y
+head-same {x = x} e = ap (λ l. getD l 0 x) e
 
 opening-equal : {b b′ : Bool} {r r′ v v′ : ℕ} {l l′ : List ℕ} → b ≡ b′ → r ≡ r′ → v ≡ v′ → l ≡ l′
     → cond (b && eqb r 0) (v ∷ l) l ≡ cond (b′ && eqb r′ 0) (v′ ∷ l′) l′
 opening-equal p q s t = rw (p, q, s, t)
 
-module _ {P : Protocol {0}} {E D : Type 0} (S : RunsActs P E D) where
+module _ {P : Protocol {0}} {E D : Type 0} (S : PerformsActs P E D) where
   -- the same job, of acts
   abbrev Acts : Protocol {1}
   Acts = acting (S .Same) (S .shared (P .start))
 
-  unfoldable pub entriesFrom : S .Plan → List (Entry P) → List (Entry Acts)
-  entriesFrom σ [] = []
-  entriesFrom σ (e ∷ es) =
-      record { act = S .act (e .act) σ; masksLent = e .masksLent; dealerLent = e .dealerLent } ∷ entriesFrom (S .onward (e .act) σ) es
+  unfoldable pub actEntries : S .Plan → List (Entry P) → List (Entry Acts)
+  actEntries σ [] = []
+  actEntries σ (e ∷ es) =
+      record { act = S .act (e .act) σ; masksLent = e .masksLent; dealerLent = e .dealerLent } ∷ actEntries (S .onward (e .act) σ) es
 
   abbrev pub jobOf : Job P → Job Acts
   jobOf J =
       record {
-        entries = entriesFrom (S .plan (P .start)) (J .entries);
+        entries = actEntries (S .plan (P .start)) (J .entries);
         channels = J .channels;
         masksLength = J .masksLength;
         dealerLength = J .dealerLength;
       }
 
   unfoldable pub lists-alike : {es fs : List (Entry P)} → AlikeLists es fs → (σ τ : S .Plan) → S .AlikePlans σ τ
-      → AlikeLists (entriesFrom σ es) (entriesFrom τ fs)
-  unfolding entriesFrom
+      → AlikeLists (actEntries σ es) (actEntries τ fs)
+  unfolding actEntries
   lists-alike jobs.done σ τ h = jobs.done
   lists-alike (jobs.more {e = e} {f = f} a tail) σ τ h =
       jobs.more
@@ -61,27 +63,6 @@ module _ {P : Protocol {0}} {E D : Type 0} (S : RunsActs P E D) where
         masksLength = a .masksLength;
         dealerLength = a .dealerLength;
       }
-
-  -- what U sees, of what it holds
-  abbrev viewFor : S .Plan → View (Holding E D) → View (P .Seen)
-  viewFor σ v = view (S .seenAs σ (v .seen .public) (v .seen .own) (v .seen .far)) (v .sends) (v .receives) (v .refusal) (v .value) (v .gates)
-
-  viewsFor : S .Plan → List (Entry P) → List (View (Holding E D)) → List (View (P .Seen))
-  viewsFor σ [] vs = []
-  viewsFor σ (e ∷ es) [] = []
-  viewsFor σ (e ∷ es) (v ∷ vs) = viewFor (S .onward (e .act) σ) v ∷ viewsFor (S .onward (e .act) σ) es vs
-
-  views-alike : {es fs : List (Entry P)} → AlikeLists es fs → (σ τ : S .Plan) → S .AlikePlans σ τ → (vs : List (View (Holding E D)))
-      → viewsFor σ es vs ≡ viewsFor τ fs vs
-  unfolding viewsFor
-  views-alike jobs.done σ τ h vs = refl
-  views-alike (jobs.more a tail) σ τ h [] = refl
-  views-alike (jobs.more {e = e} {f = f} a tail) σ τ h (v ∷ vs) =
-      let on = S .alike-onward (e .act) (f .act) σ τ (a .act) h in
-      ap₂ _∷_
-      (ap (λ (x : P .Seen). view x (v .sends) (v .receives) (v .refusal) (v .value) (v .gates))
-      (S .seen-alike (S .onward (e .act) σ) (S .onward (f .act) τ) on (v .seen .public) (v .seen .own) (v .seen .far)))
-      (views-alike tail (S .onward (e .act) σ) (S .onward (f .act) τ) on vs)
 
   -- one step of a run, and that of its act
   module _ (T : Tapes) (e : Entry P) (m : P .State) (c : Place → List ℕ) (good : S .Good m) where
@@ -110,58 +91,76 @@ module _ {P : Protocol {0}} {E D : Type 0} (S : RunsActs P E D) where
 
   module _ (T : Tapes) where
     fair-to : {es : List (Entry P)} {m : P .State} {c : Place → List ℕ} → S .Good m
-        → FairFrom es m c T → FairFrom (entriesFrom (S .plan m) es) (S .shared m) c T
-    unfolding entriesFrom
+        → FairFrom es m c T → FairFrom (actEntries (S .plan m) es) (S .shared m) c T
+    unfolding actEntries
     fair-to good jobs.FairFrom.done = jobs.FairFrom.done
     fair-to good (jobs.FairFrom.fair {e = e} {es = es} {m = m} {c = c} f rest) =
         let same = refusal-is T e m c good in
         jobs.FairFrom.fair
         (record {
-          number = λ r. f .number (turned (sym (S .number-is (e .act) m _)) (subst (S .act (e .act) (S .plan m) .NumberRefused) same r));
+          number = λ r. f .number (transport (sym (S .number-is (e .act) m _ good)) (subst (S .act (e .act) (S .plan m) .NumberRefused) same r));
           item = λ q. f .item (sym same ∙ q);
-          small = λ q. turned (S .small-is (e .act) m good) (f .small (sym same ∙ q));
+          small = λ q. transport (S .small-is (e .act) m good) (f .small (sym same ∙ q));
         })
-        (turned (sym (next-is T e m c good (λ σ s d. FairFrom (entriesFrom σ es) s d T)))
+        (transport (sym (next-is T e m c good (λ σ s d. FairFrom (actEntries σ es) s d T)))
         (fair-to (good-next T e m c good) rest))
 
     fair-back : (es : List (Entry P)) (m : P .State) (c : Place → List ℕ) → S .Good m
-        → FairFrom (entriesFrom (S .plan m) es) (S .shared m) c T → FairFrom es m c T
-    unfolding entriesFrom
+        → FairFrom (actEntries (S .plan m) es) (S .shared m) c T → FairFrom es m c T
+    unfolding actEntries
     fair-back [] m c good h = jobs.FairFrom.done
     fair-back (e ∷ es) m c good (jobs.FairFrom.fair f rest) =
         let same = refusal-is T e m c good in
         jobs.FairFrom.fair
         (record {
-          number = λ r. f .number (subst (S .act (e .act) (S .plan m) .NumberRefused) (sym same) (turned (S .number-is (e .act) m _) r));
+          number = λ r. f .number (subst (S .act (e .act) (S .plan m) .NumberRefused) (sym same) (transport (S .number-is (e .act) m _ good) r));
           item = λ q. f .item (same ∙ q);
-          small = λ q. turned (sym (S .small-is (e .act) m good)) (f .small (same ∙ q));
+          small = λ q. transport (sym (S .small-is (e .act) m good)) (f .small (same ∙ q));
         })
         (fair-back es (outcome e m T c .state) (outcome e m T c .channels) (good-next T e m c good)
-        (turned (next-is T e m c good (λ σ s d. FairFrom (entriesFrom σ es) s d T)) rest))
+        (transport (next-is T e m c good (λ σ s d. FairFrom (actEntries σ es) s d T)) rest))
 
     opened-is : (es : List (Entry P)) (m : P .State) (c : Place → List ℕ) → S .Good m
-        → openedFrom (entriesFrom (S .plan m) es) (S .shared m) c T ≡ openedFrom es m c T
-    unfolding entriesFrom openedFrom
+        → openedFrom (actEntries (S .plan m) es) (S .shared m) c T ≡ openedFrom es m c T
+    unfolding actEntries openedFrom
     opened-is [] m c good = refl
     opened-is (e ∷ es) m c good =
-        opening-equal (sym (S .opening-is (e .act) m)) (refusal-is T e m c good)
+        opening-equal (sym (S .opening-is (e .act) m good)) (refusal-is T e m c good)
         (ap (λ (o : Outcome (Shared E D)). o .value) (acted-is T e m c good))
-        (next-is T e m c good (λ σ s d. openedFrom (entriesFrom σ es) s d T)
+        (next-is T e m c good (λ σ s d. openedFrom (actEntries σ es) s d T)
         ∙ opened-is es (outcome e m T c .state) (outcome e m T c .channels) (good-next T e m c good))
 
-    views-are : (U : Place) (es : List (Entry P)) (m : P .State) (c : Place → List ℕ) → S .Good m
-        → viewsFor (S .plan m) es (map (viewOf Acts U) (courseFrom (entriesFrom (S .plan m) es) (S .shared m) c T))
-        ≡ map (viewOf P U) (courseFrom es m c T)
-    unfolding entriesFrom courseFrom viewsFor
-    views-are U [] m c good = refl
-    views-are U (e ∷ es) m c good =
-        let o = outcome e m T c in
-        ap₂ _∷_
-        (ap₂ (λ (σ : S .Plan) (x : Outcome (Shared E D)). viewFor σ (viewOf Acts U x))
-        (sym (S .plan-after (e .act) m (lent e T) c good)) (acted-is T e m c good)
-        ∙ ap (λ (x : P .Seen). view x (o .channels U) (o .channels (next U)) (o .refusal) (o .value) (o .gates)) (S .seen-is U (o .state)))
-        (next-is T e m c good (λ σ s d. viewsFor σ es (map (viewOf Acts U) (courseFrom (entriesFrom σ es) s d T)))
-        ∙ views-are U es (o .state) (o .channels) (good-next T e m c good))
+  -- alike jobs whose acts look the same to U look the same to it
+  views-same : {es fs : List (Entry P)} → AlikeLists es fs → (U : Place) (T T′ : Tapes) (m n : P .State) (c d : Place → List ℕ)
+      → S .Good m → S .Good n → S .AlikePlans (S .plan m) (S .plan n)
+      → map (viewOf Acts U) (courseFrom (actEntries (S .plan m) es) (S .shared m) c T)
+      ≡ map (viewOf Acts U) (courseFrom (actEntries (S .plan n) fs) (S .shared n) d T′)
+      → map (viewOf P U) (courseFrom es m c T) ≡ map (viewOf P U) (courseFrom fs n d T′)
+  unfolding actEntries courseFrom
+  views-same jobs.done U T T′ m n c d good good′ plans same = refl
+  views-same (jobs.more {e = e} {f = f} {es = es} {fs = fs} a tail) U T T′ m n c d good good′ plans same =
+      let o = outcome e m T c in
+      let o′ = outcome f n T′ d in
+      let first : viewOf Acts U (outcomeBy (S .shared) o) ≡ viewOf Acts U (outcomeBy (S .shared) o′)
+      = sym (ap (viewOf Acts U) (acted-is T e m c good)) ∙ head-same same ∙ ap (viewOf Acts U) (acted-is T′ f n d good′) in
+      let next-plans : S .AlikePlans (S .plan (o .state)) (S .plan (o′ .state))
+      = subst₂ (S .AlikePlans) (sym (S .plan-after (e .act) m (lent e T) c good)) (sym (S .plan-after (f .act) n (lent f T′) d good′))
+      (S .alike-onward (e .act) (f .act) (S .plan m) (S .plan n) (a .act) plans) in
+      ap₂ _∷_
+      (view-equal
+      (S .seen-same U (o .state) (o′ .state) (good-next T e m c good) (good-next T′ f n d good′) next-plans
+      (ap (λ (v : View (Holding E D)). v .seen .public) first)
+      (ap (λ (v : View (Holding E D)). v .seen .own) first)
+      (ap (λ (v : View (Holding E D)). v .seen .far) first))
+      (ap (λ (v : View (Holding E D)). v .sends) first)
+      (ap (λ (v : View (Holding E D)). v .receives) first)
+      (ap (λ (v : View (Holding E D)). v .refusal) first)
+      (ap (λ (v : View (Holding E D)). v .value) first)
+      (ap (λ (v : View (Holding E D)). v .gates) first))
+      (views-same tail U T T′ (o .state) (o′ .state) (o .channels) (o′ .channels) (good-next T e m c good) (good-next T′ f n d good′) next-plans
+      (sym (next-is T e m c good (λ σ s x. map (viewOf Acts U) (courseFrom (actEntries σ es) s x T)))
+      ∙ ap (drop 1) same
+      ∙ next-is T′ f n d good′ (λ σ s x. map (viewOf Acts U) (courseFrom (actEntries σ fs) s x T′))))
 
   meet-to : {J K : Job P} {T T′ : Tapes} → Meet J K T T′ → Meet (jobOf J) (jobOf K) T T′
   meet-to {J} {K} {T} {T′} meet =
@@ -179,7 +178,6 @@ module _ {P : Protocol {0}} {E D : Type 0} (S : RunsActs P E D) where
   secrecy-of J K alike U own far wo wf =
       let C = acting-secrecy (S .same-public) (S .start-at) (S .start-same) (jobOf J) (jobOf K) (jobs-alike alike) U own far wo wf in
       let there : Hidden → Tapes = λ h. tapesWith U own far h in
-      let start = S .plan (P .start) in
       record {
         to = C .to;
         from = C .from;
@@ -195,10 +193,9 @@ module _ {P : Protocol {0}} {E D : Type 0} (S : RunsActs P E D) where
                   (both .1 (fair-to (there (C .to h)) (S .start-good) f))),
             );
         alike = λ T T′ meet h x f.
-            sym (views-are (there h) U (J .entries) (P .start) (J .channels) (S .start-good))
-            ∙ ap (viewsFor start (J .entries)) (C .alike T T′ (meet-to meet) h (forth J x) (fair-to (there h) (S .start-good) f))
-            ∙ views-alike (alike .entries) start start (S .start-alike) _
-            ∙ views-are (there (C .to h)) U (K .entries) (P .start) (K .channels) (S .start-good);
+            views-same (alike .entries) U (there h) (there (C .to h)) (P .start) (P .start) (J .channels) (K .channels)
+            (S .start-good) (S .start-good) (S .start-alike)
+            (C .alike T T′ (meet-to meet) h (forth J x) (fair-to (there h) (S .start-good) f));
       }
     where
       forth : (L : Job P) {h : Hidden} → Hides L U h → Hides (jobOf L) U h

@@ -12,13 +12,13 @@ use Rattle.view.specs.Views as views
 use Rattle.view.proofs.Theorems.{items-fit-gates}
 use Rattle.act.specs.Changes.{Changed, before, dealtAround, decoded, differ, end, go, item, itemsK, leftJ, outcomeJ, outcomeK, restOf, skip, workJ, workK}
 use Rattle.act.specs.Jobs.{AlikeEntries, AlikeLists, Entry, Words, lent}
-use Rattle.act.specs.Lawful.{AlikeWork, Narrow, NarrowWork, Sameness, acting}
-use Rattle.act.specs.Own.{handedOf}
-use Rattle.act.specs.Runs.{AtStart}
-use Rattle.act.specs.Secrecy.{Hidden, tapesWith}
-use Rattle.act.specs.Works.{Shared, Work, deals, opens, runs, wordsFrom}
 use Rattle.act.specs.Jobs as jobs
+use Rattle.act.specs.Lawful.{AlikeWork, Narrow, NarrowWork, Sameness, acting}
 use Rattle.act.specs.Lawful as lawful
+use Rattle.act.specs.Own.{handedOf}
+use Rattle.act.specs.Performs.{AtStart}
+use Rattle.act.specs.Secrecy.{Hidden, tapesWith}
+use Rattle.act.specs.Works.{Shared, Work, deals, evaluates, opens, wordsFrom}
 use Rattle.act.proofs.ActLaw.{passed}
 use Rattle.act.proofs.DealLaw.{items-below}
 use Rattle.act.proofs.GoLaw.{accepted-items, decoded-dealer, decoded-lacked, public-kept, rest-before}
@@ -67,7 +67,7 @@ decoded-small U (deals rest p v put) n t t′ W h b fits =
       dealer = small-cons r₀ (r₁ ∷ []) (omega arith) (small-cons r₁ [] (omega arith) small-nil);
       lacked = small-nil;
     }
-decoded-small U (runs rest R) n t t′ W h b fits =
+decoded-small U (evaluates rest R) n t t′ W h b fits =
     record { dealer = small-nil; lacked = fits-small b (items-fit-gates (R .State) U (R .gates) _ t t′ W fits) }
 decoded-small U (opens rest read value) n t t′ W h b fits = record { dealer = small-nil; lacked = small-nil }
 

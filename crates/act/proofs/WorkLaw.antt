@@ -18,10 +18,10 @@ use Rattle.act.specs.Acts.{performed}
 use Rattle.act.specs.Changes.{dealtAround, decoded}
 use Rattle.act.specs.Jobs.{Outcome}
 use Rattle.act.specs.Lawful.{AlikeWork}
+use Rattle.act.specs.Lawful as lawful
 use Rattle.act.specs.Own.{handedOf}
 use Rattle.act.specs.Secrecy.{Hidden}
-use Rattle.act.specs.Works.{Run, Shared, Work, begun, deals, gatesIn, itemsIn, opens, publicAfter, runs, sharesAfter, valueFrom, wordsFrom}
-use Rattle.act.specs.Lawful as lawful
+use Rattle.act.specs.Works.{Evaluation, Shared, Work, begun, deals, evaluates, gatesIn, itemsIn, opens, publicAfter, sharesAfter, valueFrom, wordsFrom}
 use Rattle.act.proofs.DealLaw.{items-back, items-below, pair-back, pair-below}
 use Rattle.act.proofs.PrefixLaw.{Agree, ends-prefix, sent-prefix}
 
@@ -83,7 +83,7 @@ module _ {E D : Type 0} where
   shares-agree (deals rest p v put) s left left′ a =
       let both = first-two (left .dealer) (left′ .dealer) (a .dealer) in
       rw (both .0, both .1)
-  shares-agree (runs rest R) s left left′ a =
+  shares-agree (evaluates rest R) s left left′ a =
       ap (λ (z : Place → R .State). tabled (λ i. R .finish i (s i) (z i))) (ends-prefix (R .gates) (begun R s) (left .masks) (left′ .masks) (a .masks))
   shares-agree (opens rest read value) s left left′ a = refl
 
@@ -91,7 +91,7 @@ module _ {E D : Type 0} where
       → (i : Place) → wordsFrom w s left i ≡ wordsFrom w s left′ i
   unfolding wordsFrom
   words-agree (deals rest p v put) s left left′ a i = refl
-  words-agree (runs rest R) s left left′ a i = sent-prefix (R .gates) (begun R s) (left .masks) (left′ .masks) (a .masks) i
+  words-agree (evaluates rest R) s left left′ a i = sent-prefix (R .gates) (begun R s) (left .masks) (left′ .masks) (a .masks) i
   words-agree (opens rest read value) s left left′ a i = refl
 
   -- an act does the same with them
@@ -113,7 +113,7 @@ module _ {E D : Type 0} where
   -- items in the ranges that an act tests, and enough of them
   abbrev pub Inside : Work E D → Tapes → Type 0
   Inside (deals rest p v put) left = (getD (left .dealer) 0 0 < p) × (getD (left .dealer) 1 0 < p) × (2 ≤ length (left .dealer))
-  Inside (runs rest R) left = (i : Place) → Fits (moduli (R .gates)) (take (length (R .gates)) (left .masks i))
+  Inside (evaluates rest R) left = (i : Place) → Fits (moduli (R .gates)) (take (length (R .gates)) (left .masks i))
   Inside (opens rest read value) left = Unit {0}
 
   -- what U does not see of the items that an act takes
@@ -130,7 +130,7 @@ module _ {E D : Type 0} where
       let r₁ = getD (left .dealer) 1 0 in
       let back = items-back U p v r₀ r₁ (inside .0) (inside .1) in
       ap (λ (l : List ℕ). record-of l []) (ap₂ (λ (a b : ℕ). a ∷ b ∷ []) (back .0) (back .1) ∙ take-two (left .dealer) (inside .2))
-  decoded-back U (runs rest R) s left inside =
+  decoded-back U (evaluates rest R) s left inside =
       let t = left .masks U in
       let t′ = left .masks (next U) in
       let M = take (length (R .gates)) (left .masks (lackedBy U)) in
@@ -143,7 +143,7 @@ module _ {E D : Type 0} where
   -- what is brought in the ranges of the act
   abbrev pub Fitting : Work E D → List ℕ → Pair → Type 0
   Fitting (deals rest p v put) W h = (h .own < p) × (h .far < p)
-  Fitting (runs rest R) W h = Fits (moduli (R .gates)) W
+  Fitting (evaluates rest R) W h = Fits (moduli (R .gates)) W
   Fitting (opens rest read value) W h = Unit {0}
 
   pub brought-fits : (U : Place) (w : Work E D) (s : Place → D) (left : Tapes) → Inside w left
@@ -151,7 +151,7 @@ module _ {E D : Type 0} where
   unfolding wordsFrom
   brought-fits U (deals rest p v put) s left inside =
       pair-below U p v (getD (left .dealer) 0 0) (getD (left .dealer) 1 0) (inside .0) (inside .1)
-  brought-fits U (runs rest R) s left inside =
+  brought-fits U (evaluates rest R) s left inside =
       let M = take (length (R .gates)) (left .masks (lackedBy U)) in
       rw (received-encodes U (R .gates) (begun R s) (left .masks) M (take-twice (length (R .gates)) (left .masks (lackedBy U))))
       (words-fit-gates (R .State) U (R .gates) (begun R s) (left .masks U) (left .masks (next U)) M (inside (lackedBy U)))
@@ -199,18 +199,18 @@ module _ {E D : Type 0} where
         (rw (both .0) (range .0), rw (both .1) (range .1), both .2),
       )
 
-  run-partner : (U : Place) (rest : E) (R : Run D) (m n : Shared E D) (left left′ : Tapes)
-      → Inside (runs rest R) left
-      → Partner U (runs rest R) (runs rest R) m n left left′
-      → (wordsFrom (runs rest R) (n .share) left′ (next U) ≡ wordsFrom (runs rest R) (m .share) left (next U))
-      × Inside (runs rest R) left′
+  run-partner : (U : Place) (rest : E) (R : Evaluation D) (m n : Shared E D) (left left′ : Tapes)
+      → Inside (evaluates rest R) left
+      → Partner U (evaluates rest R) (evaluates rest R) m n left left′
+      → (wordsFrom (evaluates rest R) (n .share) left′ (next U) ≡ wordsFrom (evaluates rest R) (m .share) left (next U))
+      × Inside (evaluates rest R) left′
   unfolding decoded wordsFrom
   run-partner U rest R m n left left′ inside partner =
       let t = left .masks U in
       let t′ = left .masks (next U) in
       let g = length (R .gates) in
       let W = sent (R .gates) (begun R (m .share)) (left .masks) (next U) in
-      let fits = brought-fits U (runs rest R) (m .share) left inside in
+      let fits = brought-fits U (evaluates rest R) (m .share) left inside in
       let M = decode U (R .gates) (begun R (n .share)) t t′ W in
       let items : take g (left′ .masks (lackedBy U)) ≡ M = ap (λ (s : Hidden). s .lacked) (partner .items) in
       let lacked : take g (left′ .masks (lackedBy U)) ≡ take g M
@@ -229,7 +229,7 @@ module _ {E D : Type 0} where
   handed-same U (deals rest p v put) w′ m n left left′ lawful.same inside partner = deal-partner U rest p v v put m n left left′ inside partner .0
   handed-same U (deals rest p v put) w′ m n left left′ (lawful.number {v′ = v′}) inside partner =
       deal-partner U rest p v v′ put m n left left′ inside partner .0
-  handed-same U (runs rest R) w′ m n left left′ lawful.same inside partner = refl
+  handed-same U (evaluates rest R) w′ m n left left′ lawful.same inside partner = refl
   handed-same U (opens rest read value) w′ m n left left′ lawful.same inside partner = refl
 
   pub partner-inside : (U : Place) (w w′ : Work E D) (m n : Shared E D) (left left′ : Tapes) → AlikeWork w w′ → Inside w left
@@ -237,13 +237,13 @@ module _ {E D : Type 0} where
   partner-inside U (deals rest p v put) w′ m n left left′ lawful.same inside partner = deal-partner U rest p v v put m n left left′ inside partner .1
   partner-inside U (deals rest p v put) w′ m n left left′ (lawful.number {v′ = v′}) inside partner =
       deal-partner U rest p v v′ put m n left left′ inside partner .1
-  partner-inside U (runs rest R) w′ m n left left′ lawful.same inside partner = run-partner U rest R m n left left′ inside partner .1
+  partner-inside U (evaluates rest R) w′ m n left left′ lawful.same inside partner = run-partner U rest R m n left left′ inside partner .1
   partner-inside U (opens rest read value) w′ m n left left′ lawful.same inside partner = tt
 
   -- an opening's word is the cell's, and no item's
   abbrev pub NoOpening : Work E D → Type 0
   NoOpening (deals rest p v put) = Unit {0}
-  NoOpening (runs rest R) = Unit {0}
+  NoOpening (evaluates rest R) = Unit {0}
   NoOpening (opens rest read value) = ⊥
 
   pub received-same : (U : Place) (w w′ : Work E D) (m n : Shared E D) (left left′ : Tapes) → AlikeWork w w′ → Inside w left → NoOpening w
@@ -252,5 +252,5 @@ module _ {E D : Type 0} where
   unfolding wordsFrom
   received-same U (deals rest p v put) w′ m n left left′ lawful.same inside plain partner = refl
   received-same U (deals rest p v put) w′ m n left left′ lawful.number inside plain partner = refl
-  received-same U (runs rest R) w′ m n left left′ lawful.same inside plain partner = run-partner U rest R m n left left′ inside partner .0
+  received-same U (evaluates rest R) w′ m n left left′ lawful.same inside plain partner = run-partner U rest R m n left left′ inside partner .0
   received-same U (opens rest read value) w′ m n left left′ lawful.same inside plain partner = absurd plain

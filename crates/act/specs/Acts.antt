@@ -6,11 +6,11 @@ use lib.Dec.{eqb}
 use Rattle.gate.specs.Places.{Place, tabled}
 use Rattle.machine.specs.Checks.{Lengths, Tapes}
 use Rattle.machine.specs.Step.{lengthsOf, written}
-use Rattle.act.specs.Jobs.{Outcome}
-use Rattle.act.specs.Works.{Public, Shared, Work, badItem, deals, gatesIn, leftOf, opens, publicAfter, runs, sharesAfter, valueFrom, wordsFrom}
+use Rattle.act.specs.Jobs.{Outcome, refused}
+use Rattle.act.specs.Works.{Public, Shared, Work, badItem, deals, gatesIn, leftOf, opens, publicAfter, evaluates, sharesAfter, valueFrom, wordsFrom}
 
--- refusal: 0, or the number of the first check met, items aside. NumberRefused: that number says something of the number dealt.
--- Small: what values must be for the work to leave what it should
+-- refusal: 0, or the first check met, by what is public; items are tested after it. NumberRefused r: r says something of the number
+-- dealt. Small: the condition on values under which the work leaves what it should
 pub record Act (E D : Type 0) : Type 1 where
   pub refusal : Public E → Lengths → ℕ
   pub work : Public E → Work E D
@@ -28,14 +28,14 @@ performed w m left c =
       channels = tabled (λ i. written (m .public .channelsAt) (wordsFrom w (m .share) left i) (c i));
     }
 
--- a refused one changes nothing
-abbrev pub refused : {E D : Type 0} → ℕ → Shared E D → (Place → List ℕ) → Outcome (Shared E D)
-refused n m c = record { state = m; refusal = n; value = 0; gates = 0; channels = c }
+-- of two refusals the first that is met
+abbrev pub firstOf : ℕ → ℕ → ℕ
+firstOf zero r = r
+firstOf (suc n) r = suc n
 
--- the public refusal, or 10 for an item
+-- "10 .. out of range" comes after all that is public
 abbrev pub refusalBy : ℕ → Bool → ℕ
-refusalBy zero bad = cond bad 10 0
-refusalBy (suc r) bad = suc r
+refusalBy r bad = firstOf r (cond bad 10 0)
 
 abbrev pub refusalOf : {E D : Type 0} → Act E D → Public E → Tapes → (Place → List ℕ) → ℕ
 refusalOf a q T c = refusalBy (a .refusal q (lengthsOf T c)) (badItem (a .work q) (leftOf q T))
@@ -48,5 +48,5 @@ step a m T c =
 
 abbrev pub isOpening : {E D : Type 0} → Work E D → Bool
 isOpening (deals rest p v put) = false
-isOpening (runs rest R) = false
+isOpening (evaluates rest R) = false
 isOpening (opens rest read value) = true

@@ -14,7 +14,7 @@ use Rattle.act.specs.Jobs.{Entry, Outcome, lent, outcome}
 use Rattle.act.specs.Lawful.{Sameness, acting}
 use Rattle.act.specs.Own.{handedOf}
 use Rattle.act.specs.Secrecy.{Hidden, tapesWith}
-use Rattle.act.specs.Works.{Shared, Work, begun, deals, leftOf, opens, runs, wordsFrom}
+use Rattle.act.specs.Works.{Shared, Work, begun, deals, leftOf, opens, evaluates, wordsFrom}
 
 abbrev pub nothing : Hidden
 nothing = record { dealer = []; lacked = [] }
@@ -27,7 +27,7 @@ dealtAround U p v h = around U (h .own) (h .far) (diff p (diff p v (h .own)) (h 
 unfoldable pub decoded : {E D : Type 0} → Place → Work E D → (Place → D) → (own far received : List ℕ) → Pair → Hidden
 decoded U (deals rest p v put) n t t′ W h =
     record { dealer = dealtAround U p v h p0 ∷ dealtAround U p v h p1 ∷ []; lacked = [] }
-decoded U (runs rest R) n t t′ W h = record { dealer = []; lacked = decode U (R .gates) (begun R n) t t′ W }
+decoded U (evaluates rest R) n t t′ W h = record { dealer = []; lacked = decode U (R .gates) (begun R n) t t′ W }
 decoded U (opens rest read value) n t t′ W h = nothing
 
 -- what is left of the hidden tapes

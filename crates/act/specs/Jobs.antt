@@ -16,6 +16,14 @@ pub record Outcome (State : Type 0) : Type 0 where
   pub gates : ℕ
   pub channels : Place → List ℕ
 
+-- the same outcome, of another state
+abbrev pub withState : {S S′ : Type 0} → S′ → Outcome S → Outcome S′
+withState m o = record { state = m; refusal = o .refusal; value = o .value; gates = o .gates; channels = o .channels }
+
+-- a refused act changes nothing
+abbrev pub refused : {S : Type 0} → ℕ → S → (Place → List ℕ) → Outcome S
+refused n m c = record { state = m; refusal = n; value = 0; gates = 0; channels = c }
+
 -- acts on states, and the words of demand 3 for one of them
 pub record Protocol {ℓ} : Type (ℓ + 1) where
   pub Act : Type ℓ

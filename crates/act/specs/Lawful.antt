@@ -10,7 +10,7 @@ use Rattle.view.specs.Views.{lackedBy}
 use Rattle.machine.specs.Checks.{Lengths, Tapes}
 use Rattle.act.specs.Acts.{Act, isOpening, step}
 use Rattle.act.specs.Jobs.{Protocol}
-use Rattle.act.specs.Works.{Public, Shared, Work, deals, opens, runs, valueFrom}
+use Rattle.act.specs.Works.{Public, Shared, Work, deals, opens, evaluates, valueFrom}
 
 -- a relation of data that are the same in all that is public and in every value, though not in their shares
 abbrev pub Sameness : (E D : Type 0) → Type 1
@@ -19,7 +19,7 @@ Sameness E D = Shared E D → Shared E D → Type 0
 -- enough is lent for a work
 abbrev pub Lends : {E D : Type 0} → Work E D → Public E → Lengths → Type 0
 Lends (deals rest p v put) q len = q .dealerAt + 2 ≤ len .dealer
-Lends (runs rest R) q len =
+Lends (evaluates rest R) q len =
     (R .gates ≡ [])
     ⊎ ((i : Place) → (q .masksAt + length (R .gates) ≤ len .masks i) × (q .channelsAt + length (R .gates) ≤ len .channels i))
 Lends (opens rest read value) q len = (i : Place) → q .channelsAt + 1 ≤ len .channels i
@@ -31,13 +31,13 @@ pub data Narrow {S : Type 0} : List (Gate S) → Type 0 where
 
 abbrev pub NarrowWork : {E D : Type 0} → Work E D → Type 0
 NarrowWork (deals rest p v put) = p < 2 ^ 61
-NarrowWork (runs rest R) = Narrow (R .gates)
+NarrowWork (evaluates rest R) = Narrow (R .gates)
 NarrowWork (opens rest read value) = Unit {0}
 
 -- what an opening tells of the share at a place
 abbrev pub toldAt : {E D : Type 0} → Work E D → (Place → D) → Place → ℕ
 toldAt (deals rest p v put) s i = 0
-toldAt (runs rest R) s i = 0
+toldAt (evaluates rest R) s i = 0
 toldAt (opens rest read value) s i = read (s i)
 
 -- what an act owes

@@ -1,10 +1,10 @@
-pub mod Acts
-pub mod Changes
 pub mod Jobs
-pub mod Lawful
-pub mod Lifting
-pub mod Local
-pub mod Own
-pub mod Runs
 pub mod Secrecy
 pub mod Works
+pub mod Acts
+pub mod Lawful
+pub mod Performs
+pub mod Lifting
+pub mod Own
+pub mod Local
+pub mod Changes

@@ -1,5 +1,6 @@
--- An act on one part of a larger state, and acts that only rewrite what each place holds. Proofs: proofs/LiftLaw.antt.
-use Prim.Native.Nat.{ℕ, zero, suc}
+-- An act on one part of a larger state, whose other share stands, and acts that only rewrite what each place holds, across all parts. An
+-- act that evaluates gates on one part for another owes `Lawful` itself. Proofs: proofs/LiftLaw.antt.
+use Prim.Native.Nat.{ℕ}
 use mathlib.Core.Bool.{cond}
 use mathlib.Core.List.{List, []}
 use mathlib.Core.Path.{_≡_}
@@ -7,14 +8,15 @@ use lib.Dec.{eqb}
 use Rattle.gate.specs.Places.{Place}
 use Rattle.machine.specs.Checks.{Lengths, Tapes}
 use Rattle.machine.specs.Step.{lengthsOf}
-use Rattle.act.specs.Acts.{Act, refused, step}
-use Rattle.act.specs.Jobs.{Outcome}
+use Rattle.act.specs.Acts.{Act, firstOf, isOpening, step}
+use Rattle.act.specs.Jobs.{Outcome, refused, withState}
 use Rattle.act.specs.Lawful.{AlikeActs, Lawful, Sameness}
-use Rattle.act.specs.Works.{Public, Shared, Work, deals, gatesIn, opens, runs}
+use Rattle.act.specs.Performs.{KeepsPublic}
+use Rattle.act.specs.Works.{Public, Shared, Work, deals, gatesIn, opens, evaluates}
 
 -- no gate, no word, no item: each place makes f of what it holds
 abbrev pub rewriting : {E D : Type 0} → E → (D → D) → Work E D
-rewriting rest f = runs rest (record { State = Unit {0}; start = λ a. tt; gates = []; finish = λ i a z. f a })
+rewriting rest f = evaluates rest (record { State = Unit {0}; start = λ a. tt; gates = []; finish = λ i a z. f a })
 
 -- an act that only rewrites, by what is public: rest gives what else is public afterwards
 abbrev pub rewriteAct : {E D : Type 0} → (Public E → Lengths → ℕ) → (Public E → E) → (Public E → D → D) → Act E D
@@ -81,19 +83,15 @@ pub record InBoth {E E′ D D′ : Type 0} (Same : Sameness E D) (Same′ : Seco
 -- a work on the first part; e: what is public of the second afterwards
 abbrev pub liftWork : {E E′ D D′ : Type 0} → E′ → Work E D → Work (E × E′) (D × D′)
 liftWork e (deals rest p v put) = deals (rest, e) p v (λ a z. (put (a .0) z, a .1))
-liftWork e (runs rest R) =
-    runs (rest, e)
+liftWork e (evaluates rest R) =
+    evaluates (rest, e)
     (record { State = R .State; start = λ a. R .start (a .0); gates = R .gates; finish = λ i a z. (R .finish i (a .0) z, a .1) })
 liftWork e (opens rest read value) = opens (rest, e) (λ a. read (a .0)) value
 
--- of two refusals the first that is met
-abbrev pub firstOf : ℕ → ℕ → ℕ
-firstOf zero r = r
-firstOf (suc n) r = suc n
-
 -- an act on the first part. earlier: a refusal that comes before its own, 0 for none. after: what is public of the second part after
 -- an accepted act, by the gates spent
-abbrev pub liftAct : {E E′ D D′ : Type 0} → (Public (E × E′) → Lengths → ℕ) → (Public (E × E′) → ℕ → E′) → Act E D → Act (E × E′) (D × D′)
+abbrev pub liftAct : {E E′ D D′ : Type 0} → (Public (E × E′) → Lengths → ℕ) → (Public (E × E′) → ℕ → E′)
+    → Act E D → Act (E × E′) (D × D′)
 liftAct earlier after a =
     record {
       refusal = λ q len. firstOf (earlier q len) (a .refusal (firstPublic q) len);
@@ -103,16 +101,11 @@ liftAct earlier after a =
     }
 
 -- what it does to the whole, from what the act does to the first part
-abbrev pub withSecond : {E E′ D D′ : Type 0} → (ℕ → E′) → Shared (E × E′) (D × D′) → Outcome (Shared E D) → Outcome (Shared (E × E′) (D × D′))
+abbrev pub withSecond : {E E′ D D′ : Type 0} → (ℕ → E′) → Shared (E × E′) (D × D′)
+    → Outcome (Shared E D) → Outcome (Shared (E × E′) (D × D′))
 withSecond after m o =
     let n = secondPart m in
-    record {
-      state = joined (o .state) (record { rest = cond (eqb (o .refusal) 0) (after (o .gates)) (n .rest); share = n .share });
-      refusal = o .refusal;
-      value = o .value;
-      gates = o .gates;
-      channels = o .channels;
-    }
+    withState (joined (o .state) (record { rest = cond (eqb (o .refusal) 0) (after (o .gates)) (n .rest); share = n .share })) o
 
 -- all that a lifted act does
 abbrev pub LiftStep : Type 1
@@ -147,3 +140,13 @@ LiftAlike = (E E′ D D′ : Type 0) (Same : Sameness E D) (Same′ : Second E�
     → (earlier : Public (E × E′) → Lengths → ℕ) (after : Public (E × E′) → ℕ → E′) (a b : Act E D)
     → AlikeActs Same a b → KeepsSecond Same Same′ after a
     → AlikeActs (InBoth Same Same′) (liftAct earlier after a) (liftAct earlier after b)
+
+-- a lifted work opens where the work does
+abbrev pub LiftOpening : Type 1
+LiftOpening = (E E′ D D′ : Type 0) (e : E′) (w : Work E D) → isOpening w ≡ isOpening (liftWork {D′ = D′} e w)
+
+-- the same in both parts is the same in all that is public
+abbrev pub BothPublic : Type 1
+BothPublic = (E E′ D D′ : Type 0) (Same : Sameness E D) (Same′ : Second E′ D′ → Second E′ D′ → Type 0)
+    → KeepsPublic Same → ((x y : Second E′ D′) → Same′ x y → x .rest ≡ y .rest)
+    → KeepsPublic (InBoth Same Same′)

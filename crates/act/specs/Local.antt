@@ -9,7 +9,7 @@ use Rattle.gate.specs.Places.{Place}
 use Rattle.machine.specs.Checks.{Tapes}
 use Rattle.act.specs.Acts.{Act, performed, step}
 use Rattle.act.specs.Lawful.{AlikeWork}
-use Rattle.act.specs.Own.{Brought, Own, answer, brought, broughtBy, ownAnswer, ownOf, ownPerformed, ownStep, ownWords}
+use Rattle.act.specs.Own.{Brought, answer, brought, broughtBy, ownAnswer, ownOf, ownPerformed, ownStep, ownWords}
 use Rattle.act.specs.Works.{Shared, Work, leftOf, wordsFrom}
 
 -- what U has after a work is done, from what it had and what the work brings it
@@ -37,18 +37,18 @@ pub record SameUpTo (k : ℕ) (B B′ : Brought) : Type 0 where
   pub handed : B .handed ≡ B′ .handed
   pub received : take k (B .received) ≡ take k (B′ .received)
 
--- "the words it has received": the first k + 1 words that U sends in an act depend on the first k that it receives there, and on none later
-abbrev pub ActCausal : Type 1
-ActCausal = (E D : Type 0) (U : Place) (w : Work E D) (P : Own E D) (B B′ : Brought) (k : ℕ) → SameUpTo k B B′
-    → take (suc k) (ownWords U w (P .own) (P .far) B) ≡ take (suc k) (ownWords U w (P .own) (P .far) B′)
+-- "the words it has received": the first k + 1 words that U sends in a work depend on the first k that it receives there, and on none later
+abbrev pub WorkCausal : Type 1
+WorkCausal = (E D : Type 0) (U : Place) (w : Work E D) (own far : D) (B B′ : Brought) (k : ℕ) → SameUpTo k B B′
+    → take (suc k) (ownWords U w own far B) ≡ take (suc k) (ownWords U w own far B′)
 
 -- the words that U sends in an accepted act
 abbrev pub sentBy : {E D : Type 0} → Place → Act E D → Shared E D → Tapes → List ℕ
 sentBy U a m T = wordsFrom (a .work (m .public)) (m .share) (leftOf (m .public) T) U
 
--- of two acts alike in all but a number dealt, on data of which U has the same
-abbrev pub SendsCausally : Type 1
-SendsCausally = (E D : Type 0) (U : Place) (a b : Act E D) (m n : Shared E D) (T T′ : Tapes) (c d : Place → List ℕ) (k : ℕ)
+-- the same of any two acts whose works are alike, on data of which U has the same
+abbrev pub ActCausal : Type 1
+ActCausal = (E D : Type 0) (U : Place) (a b : Act E D) (m n : Shared E D) (T T′ : Tapes) (c d : Place → List ℕ) (k : ℕ)
     → AlikeWork (a .work (m .public)) (b .work (n .public))
     → ownOf U m c ≡ ownOf U n d
     → SameUpTo k (broughtBy U a m T) (broughtBy U b n T′)

@@ -10,7 +10,7 @@ use Rattle.view.specs.Views.{Held, around, first, ownEnds, ownSent}
 use Rattle.machine.specs.Checks.{Tapes}
 use Rattle.machine.specs.Step.{dealtShares, written}
 use Rattle.act.specs.Acts.{Act}
-use Rattle.act.specs.Works.{Public, Run, Shared, Work, deals, gatesIn, leftOf, opens, publicAfter, runs, wordsFrom}
+use Rattle.act.specs.Works.{Public, Evaluation, Shared, Work, deals, gatesIn, leftOf, opens, publicAfter, evaluates, wordsFrom}
 
 -- what party U has: what is public, its two shares, and the channels that it sends on and receives from
 pub record Own (E D : Type 0) : Type 0 where
@@ -33,7 +33,7 @@ pub record Brought : Type 0 where
 -- the pair that a deal hands U
 abbrev pub handedOf : {E D : Type 0} → Place → Work E D → Tapes → Pair
 handedOf U (deals rest p v put) left = held (parts (dealtShares p v (getD (left .dealer) 0 0) (getD (left .dealer) 1 0))) U
-handedOf U (runs rest R) left = pair 0 0
+handedOf U (evaluates rest R) left = pair 0 0
 handedOf U (opens rest read value) left = pair 0 0
 
 abbrev pub brought : {E D : Type 0} → Place → Work E D → (Place → D) → Tapes → Brought
@@ -45,13 +45,13 @@ abbrev pub broughtBy : {E D : Type 0} → Place → Act E D → Shared E D → T
 broughtBy U a m T = brought U (a .work (m .public)) (m .share) (leftOf (m .public) T)
 
 -- the states of U's two shares before a run
-abbrev pub ownStarts : {D : Type 0} (R : Run D) → D → D → Held (R .State)
+abbrev pub ownStarts : {D : Type 0} (R : Evaluation D) → D → D → Held (R .State)
 ownStarts R a b = record { own = R .start a; far = R .start b }
 
 -- its two shares after an accepted act
 unfoldable pub ownShares : {E D : Type 0} → Place → Work E D → D → D → Brought → Held D
 ownShares U (deals rest p v put) a b B = record { own = put a (B .handed .own); far = put b (B .handed .far) }
-ownShares U (runs rest R) a b B =
+ownShares U (evaluates rest R) a b B =
     let end = ownEnds U (R .gates) (ownStarts R a b) (B .own) (B .far) (B .received) in
     record { own = R .finish U a (end .own); far = R .finish (next U) b (end .far) }
 ownShares U (opens rest read value) a b B = record { own = a; far = b }
@@ -59,7 +59,7 @@ ownShares U (opens rest read value) a b B = record { own = a; far = b }
 -- the words that it sends
 unfoldable pub ownWords : {E D : Type 0} → Place → Work E D → D → D → Brought → List ℕ
 ownWords U (deals rest p v put) a b B = []
-ownWords U (runs rest R) a b B = ownSent U (R .gates) (ownStarts R a b) (B .own) (B .far) (B .received)
+ownWords U (evaluates rest R) a b B = ownSent U (R .gates) (ownStarts R a b) (B .own) (B .far) (B .received)
 ownWords U (opens rest read value) a b B = read b ∷ []
 
 -- all that it has after an accepted act
@@ -81,7 +81,7 @@ ownStep U a refusal P B = cond (eqb refusal 0) (ownPerformed U (a .work (P .publ
 -- the value that U works out: of an opening, from its own two shares and the word that it receives
 abbrev pub ownValue : {E D : Type 0} → Place → Work E D → Own E D → Brought → ℕ
 ownValue U (deals rest p v put) P B = 0
-ownValue U (runs rest R) P B = 0
+ownValue U (evaluates rest R) P B = 0
 ownValue U (opens rest read value) P B = value (around U (read (P .own)) (read (P .far)) (first (B .received)))
 
 -- what an act answers beside its refusal

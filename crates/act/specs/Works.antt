@@ -22,37 +22,38 @@ pub record Shared (E D : Type 0) : Type 0 where
   pub share : Place → D
 
 -- gates over a state that each place makes of its share, and the share that it leaves; with no gate a place works for itself
-pub record Run (D : Type 0) : Type 1 where
+pub record Evaluation (D : Type 0) : Type 1 where
   pub State : Type 0
   pub start : D → State
   pub gates : List (Gate State)
   pub finish : Place → D → State → D
 
--- rest: what else is public afterwards. A deal of v modulo p, put into each share; a run; the opening of what is read of each share
+-- rest is what else is public afterwards. deals: v modulo p, its parts put into the shares; evaluates: gates; opens: what is read of each
+-- share, and the value of the three
 pub data Work (E D : Type 0) : Type 1 where
   deals : (rest : E) (p v : ℕ) (put : D → ℕ → D) → Work E D
-  runs : (rest : E) (R : Run D) → Work E D
+  evaluates : (rest : E) (R : Evaluation D) → Work E D
   opens : (rest : E) (read : D → ℕ) (value : (Place → ℕ) → ℕ) → Work E D
 
 -- mask items of each tape taken, words written on each channel, dealer's items taken
 abbrev pub gatesIn : {E D : Type 0} → Work E D → ℕ
 gatesIn (deals rest p v put) = 0
-gatesIn (runs rest R) = length (R .gates)
+gatesIn (evaluates rest R) = length (R .gates)
 gatesIn (opens rest read value) = 0
 
 abbrev pub wordsIn : {E D : Type 0} → Work E D → ℕ
 wordsIn (deals rest p v put) = 0
-wordsIn (runs rest R) = length (R .gates)
+wordsIn (evaluates rest R) = length (R .gates)
 wordsIn (opens rest read value) = 1
 
 abbrev pub itemsIn : {E D : Type 0} → Work E D → ℕ
 itemsIn (deals rest p v put) = 2
-itemsIn (runs rest R) = 0
+itemsIn (evaluates rest R) = 0
 itemsIn (opens rest read value) = 0
 
 abbrev pub restAfter : {E D : Type 0} → Work E D → E
 restAfter (deals rest p v put) = rest
-restAfter (runs rest R) = rest
+restAfter (evaluates rest R) = rest
 restAfter (opens rest read value) = rest
 
 -- what is public afterwards
@@ -72,11 +73,11 @@ leftOf q T = leftFrom (q .masksAt) (q .dealerAt) T
 -- an item that it would take is out of range
 abbrev pub badItem : {E D : Type 0} → Work E D → Tapes → Bool
 badItem (deals rest p v put) left = leb p (getD (left .dealer) 0 0) || leb p (getD (left .dealer) 1 0)
-badItem (runs rest R) left = anyBad (moduli (R .gates)) (left .masks)
+badItem (evaluates rest R) left = anyBad (moduli (R .gates)) (left .masks)
 badItem (opens rest read value) left = false
 
--- the states at the start of a run
-abbrev pub begun : {D : Type 0} (R : Run D) → (Place → D) → Place → R .State
+-- the states before the gates
+abbrev pub begun : {D : Type 0} (R : Evaluation D) → (Place → D) → Place → R .State
 begun R s = tabled (λ i. R .start (s i))
 
 -- what is read of the three shares
@@ -88,17 +89,17 @@ unfoldable pub sharesAfter : {E D : Type 0} → Work E D → (Place → D) → T
 sharesAfter (deals rest p v put) s left =
     let z = parts (dealtShares p v (getD (left .dealer) 0 0) (getD (left .dealer) 1 0)) in
     tabled (λ i. put (s i) (z i))
-sharesAfter (runs rest R) s left = tabled (λ i. R .finish i (s i) (ends (R .gates) (begun R s) (left .masks) i))
+sharesAfter (evaluates rest R) s left = tabled (λ i. R .finish i (s i) (ends (R .gates) (begun R s) (left .masks) i))
 sharesAfter (opens rest read value) s left = s
 
 -- the value opened, 0 where none is
 abbrev pub valueFrom : {E D : Type 0} → Work E D → (Place → D) → ℕ
 valueFrom (deals rest p v put) s = 0
-valueFrom (runs rest R) s = 0
+valueFrom (evaluates rest R) s = 0
 valueFrom (opens rest read value) s = value (sharesRead s read)
 
 -- the words that each party sends: of an opening, what it reads of the next share
 unfoldable pub wordsFrom : {E D : Type 0} → Work E D → (Place → D) → Tapes → Place → List ℕ
 wordsFrom (deals rest p v put) s left i = []
-wordsFrom (runs rest R) s left i = sent (R .gates) (begun R s) (left .masks) i
+wordsFrom (evaluates rest R) s left i = sent (R .gates) (begun R s) (left .masks) i
 wordsFrom (opens rest read value) s left i = read (s (next i)) ∷ []

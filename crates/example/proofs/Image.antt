@@ -11,16 +11,16 @@ use Rattle.act.specs.Jobs.{Fair, views}
 use Rattle.act.specs.Secrecy.{Hides}
 use Rattle.act.specs.Works.{sharesAfter, wordsFrom}
 use Rattle.act.proofs.InverseLaw.{change}
-use Rattle.act.proofs.Secrecy.{entriesFrom, lists-alike, to-is}
-use Rattle.protocol.proofs.Secrecy.{orders-run-acts, secrecy}
+use Rattle.act.proofs.Secrecy.{actEntries, lists-alike, to-is}
+use Rattle.protocol.proofs.Secrecy.{orders-perform-acts, secrecy}
 use Rattle.example.specs.Example.{J, K, T}
 use Rattle.example.specs.Figures.{far, hidden, image, own, withHidden}
 use Rattle.example.proofs.Example.{alike, applies, course-open, like-itself, run}
 use Rattle.example.proofs.TestLaw.{allWords, fair-of, fairly, words-of}
 
 pub changed : applies p1 .to (hidden p1) ≡ image
-unfolding course-open decoded decode lackedItem item unmask image change ℕ-discrete alike like-itself applies secrecy orders-run-acts step sharesAfter wordsFrom entriesFrom lists-alike
-changed = to-is orders-run-acts J K alike p1 (own p1) (far p1) (run .masks p1) (run .masks p2) (hidden p1)
+unfolding course-open decoded decode lackedItem item unmask image change ℕ-discrete alike like-itself applies secrecy orders-perform-acts step sharesAfter wordsFrom actEntries lists-alike
+changed = to-is orders-perform-acts J K alike p1 (own p1) (far p1) (run .masks p1) (run .masks p2) (hidden p1)
 
 -- with it the run of K is fair, and party 1 sees what it sees of the run of J
 pub image-hides : Hides K p1 image

@@ -3,7 +3,7 @@ use Prim.Native.Nat.{ℕ, _+_}
 use mathlib.Core.Bool.{false, false≢true, true}
 use mathlib.Core.List.{List}
 use mathlib.Core.Logic.{inl, inr}
-use mathlib.Core.Path.{_≡_, ap, fun-ext, refl, subst, subst₂, sym, _∙_}
+use mathlib.Core.Path.{_≡_, ap, fun-ext, refl, subst, subst₂, sym, transport, _∙_}
 use native.Mathlib.Omega.{arith}
 use lib.ListN.{getD}
 use borrow.Author.Tests.{ltb-false}
@@ -84,9 +84,6 @@ pub small-is : (o : Order) (m : Machine) → TakesSmall o m ≡ SmallIn o (share
 small-is o m =
     ap (λ (v : ℕ → ℕ). (x : ℕ) → Lifts o x → Small (v x) (modulus (widthAt (kindAt (publicOf m) x)))) (fun-ext (λ x. value-is m x))
 
-turned : {A B : Type 0} → A ≡ B → A → B
-turned p a = subst (λ X. X) p a
-
 -- the value that a work opens
 abbrev opensOf : works.Work → Machine → ℕ
 opensOf (works.deals d e v) m = 0
@@ -146,7 +143,7 @@ module _ (o : Order) where
         isLeft = ap (λ (x : Outcome (Shared Kinds Column)). x .state) (sym (step-is o m T c s));
         isRight = ap (λ (x : Outcome (Shared Kinds Column)). x .state) (sym (step-is o n T′ c′ t));
         same = keeps-same o m n T T′ c c′ same
-            (sym (refusal-same o m T c s) ∙ z) (sym (refusal-same o n T′ c′ t) ∙ z′) (turned (sym (small-is o m)) small);
+            (sym (refusal-same o m T c s) ∙ z) (sym (refusal-same o n T′ c′ t) ∙ z′) (transport (sym (small-is o m)) small);
       }
 
   pub lawful-order : Lawful SameData (actOf o)
@@ -158,9 +155,9 @@ module _ (o : Order) where
         narrow = λ q len h. moduli-narrow o (publicFrom q) (public-passed o (publicFrom q) len h .0);
         small = λ s t i h.
             subst (SmallIn o) (i .isRight)
-            (turned (small-is o (i .right))
+            (transport (small-is o (i .right))
             (same-small o (i .left) (i .right) (i .same)
-            (turned (sym (small-is o (i .left))) (subst (SmallIn o) (sym (i .isLeft)) h))));
+            (transport (sym (small-is o (i .left))) (subst (SmallIn o) (sym (i .isLeft)) h))));
         keeps = λ s t T T′ c c′ i.
             subst₂ (λ (x y : Shared Kinds Column).
             acts.step (actOf o) x T c .refusal ≡ 0 → acts.step (actOf o) y T′ c′ .refusal ≡ 0 → SmallIn o x

@@ -13,13 +13,12 @@ use Rattle.machine.specs.declared.orders.Order.{Order}
 use Rattle.machine.specs.declared.registers.Machine.{Machine}
 use Rattle.act.specs.Jobs.{Outcome}
 use Rattle.act.specs.Lawful.{AlikeWork}
-use Rattle.act.specs.Lawful as lawful
 use Rattle.act.specs.Local.{sentBy}
-use Rattle.act.specs.Own.{Brought, Own, answer, broughtBy, ownAnswer, ownOf, ownStep, ownValue}
-use Rattle.act.specs.Works.{Shared, Work}
+use Rattle.act.specs.Own.{Brought, Own, answer, broughtBy, ownAnswer, ownOf, ownStep}
+use Rattle.act.specs.Works.{Shared}
 use Rattle.act.proofs.ActLaw.{done-is}
-use Rattle.act.proofs.LocalLaw.{act-answer, act-own, sends-causally}
-use Rattle.act.proofs.OwnLaw.{own-alike, work-local}
+use Rattle.act.proofs.LocalLaw.{act-answer, act-own, act-causal}
+use Rattle.act.proofs.OwnLaw.{own-alike, own-value-alike, work-local}
 use Rattle.act.proofs.WorkLaw.{gates-alike}
 use Rattle.outcome.proofs.AcceptLaw.{accepted, refused-is}
 use Rattle.protocol.specs.Acts.{Column, Kinds, actOf, sharedOf, workFor}
@@ -33,11 +32,6 @@ pub step-local : StepLocal
 step-local U w m left c =
     ap (λ (x : Outcome (Shared Kinds Column)). ownOf U (x .state) (x .channels)) (sym (performed-is w m left c))
     ∙ work-local Kinds Column U (workFor (publicOf m) w) (sharedOf m) left c
-
--- a party works out the same value without a deal's number
-value-alike : {E D : Type 0} (U : Place) {w w′ : Work E D} → AlikeWork w w′ → (P : Own E D) (B : Brought) → ownValue U w P B ≡ ownValue U w′ P B
-value-alike U lawful.same P B = refl
-value-alike U lawful.number P B = refl
 
 module _ (U : Place) (o : Order) (m : Machine) (T : Tapes) (c : Place → List ℕ) where
   abbrev has : Own Kinds Column
@@ -66,7 +60,7 @@ module _ (U : Place) (o : Order) (m : Machine) (T : Tapes) (c : Place → List �
       ap (λ (x : Outcome (Shared Kinds Column)). answer (x .value) (x .gates)) (sym (step-is o m T c s))
       ∙ act-answer Kinds Column U (actOf o) (sharedOf m) T c
       ∙ ap (λ (n : ℕ). ownAnswer U (actOf o) n has brings) (refusal-same o m T c s ∙ e)
-      ∙ ap₂ answer (value-alike U alike has brings) (gates-alike alike)
+      ∙ ap₂ answer (own-value-alike U alike has brings) (gates-alike alike)
   answer-at (suc n) e = rw (refused-is o m T c (λ z. omega arith), ne-eqb (suc n) 0 (λ z. omega arith))
 
 pub step-own : StepOwn
@@ -84,7 +78,7 @@ step-sends U o m T c ok =
 
 pub step-causal : StepCausal
 step-causal U o o′ m n T T′ c d k alike own same =
-    sends-causally Kinds Column U (actOf o) (actOf o′) (sharedOf m) (sharedOf n) T T′ c d k
+    act-causal Kinds Column U (actOf o) (actOf o′) (sharedOf m) (sharedOf n) T T′ c d k
     (subst (λ q. AlikeWork (actOf o .work (sharedOf m .public)) (actOf o′ .work q)) (ap (λ (P : Own Kinds Column). P .public) own)
     (alike-acts o o′ alike .works (sharedOf m .public)))
     own same

@@ -7,16 +7,17 @@ use native.Mathlib.Omega.{arith}
 use Rattle.gate.specs.Places.{Place}
 use Rattle.machine.specs.Checks.{Tapes}
 use Rattle.machine.specs.Registers.{emptyMachine, publicOf, sound, soundRegister, soundSlots}
+use Rattle.machine.specs.Registers as registers
 use Rattle.machine.specs.Step.{step}
 use Rattle.machine.specs.Step as steps
 use Rattle.machine.specs.declared.orders.Order.{Order}
 use Rattle.machine.specs.declared.registers.Machine.{Machine}
-use Rattle.act.specs.Runs.{AtStart, RunsActs}
+use Rattle.act.specs.Performs.{AtStart, PerformsActs}
 use Rattle.act.proofs.Secrecy.{secrecy-of}
 use Rattle.outcome.proofs.AcceptLaw.{refused-is}
 use Rattle.outcome.proofs.Theorems.{keeps-sound}
 use Rattle.protocol.specs.Acts.{Column, Kinds, actOf, publicFrom, sharedOf}
-use Rattle.protocol.specs.Orders.{OrdersSecret, orders, seenOf}
+use Rattle.protocol.specs.Orders.{OrdersSecret, orders, seen}
 use Rattle.protocol.specs.Same.{Good}
 use Rattle.protocol.proofs.Lawful.{SameData, alike-acts, same-public, small-is}
 use Rattle.protocol.proofs.OrderLaw.{opening-is}
@@ -37,8 +38,13 @@ pub at-start : AtStart (sharedOf emptyMachine)
 unfolding emptyMachine
 at-start = record { masks = refl; dealer = refl }
 
-unfoldable pub orders-run-acts : RunsActs orders Kinds Column
-orders-run-acts =
+-- what U sees is equal where what is public is, and each of its two columns
+pub seen-equal : {p p′ : registers.Public} {a a′ b b′ : List ℕ} → p ≡ p′ → a ≡ a′ → b ≡ b′ → seen p a b ≡ seen p′ a′ b′
+seen-equal {p} {p′} {a} {a′} {b} {b′} public own far =
+    ap (λ (x : registers.Public). seen x a b) public ∙ ap (λ (x : List ℕ). seen p′ x b) own ∙ ap (λ (x : List ℕ). seen p′ a′ x) far
+
+unfoldable pub orders-perform-acts : PerformsActs orders Kinds Column
+orders-perform-acts =
     record {
       shared = sharedOf;
       Good = λ m. sound m ≡ true;
@@ -51,15 +57,13 @@ orders-run-acts =
       act = λ o σ. actOf o;
       step-is = step-is;
       good-after = sound-after;
-      number-is = λ o m r. refl;
+      number-is = λ o m r g. refl;
       small-is = λ o m s. small-is o m;
-      opening-is = λ o m. opening-is o (publicOf m);
+      opening-is = λ o m g. opening-is o (publicOf m);
       AlikePlans = λ σ τ. Unit {0};
       alike = λ o o′ σ τ a h. alike-acts o o′ a;
       alike-onward = λ o o′ σ τ a h. tt;
-      seenAs = λ σ q own far. seenOf (publicFrom q) own far;
-      seen-is = λ U m. refl;
-      seen-alike = λ σ τ h q x y. refl;
+      seen-same = λ U m n g g′ plans public own far. seen-equal (ap publicFrom public) own far;
       start-good = empty-good .sound;
       start-at = at-start;
       start-same = record {
@@ -73,4 +77,4 @@ orders-run-acts =
     }
 
 unfoldable pub secrecy : OrdersSecret
-secrecy = secrecy-of orders-run-acts
+secrecy = secrecy-of orders-perform-acts

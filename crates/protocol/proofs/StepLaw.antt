@@ -23,8 +23,8 @@ use Rattle.machine.specs.declared.registers.Machine.{Machine}
 use Rattle.machine.proofs.WrittenLaw.{empty-of, nothing-written}
 use Rattle.act.specs.Acts.{refusalBy}
 use Rattle.act.specs.Acts as acts
-use Rattle.act.specs.Jobs.{Outcome}
-use Rattle.act.specs.Runs.{outcomeBy}
+use Rattle.act.specs.Jobs.{Outcome, refused}
+use Rattle.act.specs.Performs.{outcomeBy}
 use Rattle.act.specs.Works.{Public, Shared, begun, publicAfter, sharesAfter, valueFrom, wordsFrom}
 use Rattle.act.specs.Works as acting
 use Rattle.act.proofs.ActLaw as tests
@@ -184,5 +184,5 @@ step-is o m T c s = go (step o m T c .refusal) refl
     go (suc n) e =
         let same = refusal-same o m T c s in
         tests.refused-is (actOf o) (sharedOf m) T c (λ z. omega (arith, sym same ∙ z))
-        ∙ ap (λ (k : ℕ). acts.refused k (sharedOf m) c) same
+        ∙ ap (λ (k : ℕ). refused k (sharedOf m) c) same
         ∙ sym (ap (λ (x : steps.Outcome). outcomeBy sharedOf (returned x)) (refused-is o m T c (λ z. omega arith)))

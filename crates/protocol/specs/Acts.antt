@@ -14,7 +14,7 @@ use Rattle.machine.specs.Work as works
 use Rattle.machine.specs.declared.orders.Order.{Order}
 use Rattle.machine.specs.declared.registers.Machine.{Machine}
 use Rattle.act.specs.Acts.{Act}
-use Rattle.act.specs.Works.{Public, Run, Shared, Work, deals, opens, runs, sharesRead}
+use Rattle.act.specs.Works.{Public, Evaluation, Shared, Work, deals, opens, evaluates, sharesRead}
 use Rattle.protocol.specs.Orders.{Lifts, RefusedNumber, Small, column}
 
 -- what is public beside the positions, and what a place holds: a sub-share of each register
@@ -47,7 +47,7 @@ keptAs (number r) v = v
 keptAs (bits l) v = v
 
 -- a circuit from registers x and y to register d
-abbrev pub runOf : Circuit → (d x y : ℕ) → Kind → Run Column
+abbrev pub runOf : Circuit → (d x y : ℕ) → Kind → Evaluation Column
 runOf C d x y kind =
     record {
       State = C .State;
@@ -59,8 +59,8 @@ runOf C d x y kind =
 abbrev pub workFor : registers.Public → works.Work → Work Kinds Column
 workFor p (works.deals d e v) =
     deals (set (p .kinds) d (numberKind (ringOf e))) (modulus e) v (λ a z. set a d (keptAs (numberKind (ringOf e)) z))
-workFor p (works.adjusts C d x y kind) = runs (set (p .kinds) d kind) (runOf C d x y kind)
-workFor p (works.computes C d x y kind) = runs (set (p .kinds) d kind) (runOf C d x y kind)
+workFor p (works.adjusts C d x y kind) = evaluates (set (p .kinds) d kind) (runOf C d x y kind)
+workFor p (works.computes C d x y kind) = evaluates (set (p .kinds) d kind) (runOf C d x y kind)
 workFor p (works.opens x) = opens (p .kinds) (shareAt x) (valueIn (kindAt p x))
 
 -- 4a is below p, of the number that an order decomposes, converts or shifts

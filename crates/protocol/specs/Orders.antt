@@ -4,7 +4,7 @@ use mathlib.Core.List.{List, map}
 use mathlib.Core.Path.{_≡_}
 use Rattle.ring.specs.Rings.{modulus}
 use Rattle.gate.specs.Places.{Place, next, parts}
-use Rattle.machine.specs.Registers.{Kind, Public, emptyMachine, kindAt, publicOf, registerAt, sharesOf, widthAt}
+use Rattle.machine.specs.Registers.{Public, emptyMachine, kindAt, publicOf, registerAt, sharesOf, widthAt}
 use Rattle.machine.specs.Step.{step, valueOf}
 use Rattle.machine.specs.Step as steps
 use Rattle.machine.specs.declared.orders.Order.{Order}
@@ -52,28 +52,17 @@ withoutNumber (Open x) = Open x
 abbrev pub column : Machine → Place → List ℕ
 column m i = map (λ (s : Slot). parts (sharesOf (s .reg)) i) (m .slots)
 
--- "each register's kind, ring or bit count and U's two sub-shares of it; the three positions"
+-- "each register's kind, ring or bit count and U's two sub-shares of it; the three positions": kinds and positions are what is public
 pub record Seen : Type 0 where
-  pub kinds : List Kind
+  pub public : Public
   pub own : List ℕ
   pub far : List ℕ
-  pub masksAt : ℕ
-  pub channelsAt : ℕ
-  pub dealerAt : ℕ
 
-abbrev pub seenOf : Public → (own far : List ℕ) → Seen
-seenOf p own far =
-    record {
-      kinds = p .kinds;
-      own = own;
-      far = far;
-      masksAt = p .masksAt;
-      channelsAt = p .channelsAt;
-      dealerAt = p .dealerAt;
-    }
+abbrev pub seen : Public → (own far : List ℕ) → Seen
+seen public own far = record { public = public; own = own; far = far }
 
 abbrev pub seenBy : Place → Machine → Seen
-seenBy U m = seenOf (publicOf m) (column m U) (column m (next U))
+seenBy U m = seen (publicOf m) (column m U) (column m (next U))
 
 -- the nine orders as a protocol
 abbrev pub orders : Protocol {0}
