@@ -1,11 +1,13 @@
 -- What the two runs answer and hold, the change of one pair of hidden tapes, and what it shows of views. The numbers are those of
 -- tests/example. Proofs: proofs/Example.antt, proofs/Image.antt and proofs/Views.antt.
 use Prim.Native.Nat.{ℕ}
-use mathlib.Core.List.{List, [], _∷_, map}
+use mathlib.Core.List.{List, [], _∷_, _++_, map}
+use lib.ListN.{replicate}
+use Rattle.ring.specs.declared.rings.Ring.the-variants.{R13}
 use Rattle.gate.specs.Places.{Place, next}
 use Rattle.view.specs.Views.{lackedBy}
 use Rattle.machine.specs.Checks.{Tapes}
-use Rattle.machine.specs.Registers.{emptyMachine}
+use Rattle.machine.specs.Registers.{empty, emptyMachine, number}
 use Rattle.machine.specs.Step.{valueOf}
 use Rattle.machine.specs.declared.orders.Order.{Order}
 use Rattle.machine.specs.declared.orders.Order.the-variants.{Add, Compose, Convert, Deal, Decompose, Multiply, Open, Scale, Shift}
@@ -116,6 +118,39 @@ lackedShares U J T = map (λ (o : Outcome Machine). column (o .state) (lackedBy 
 
 abbrev pub lackedChannels : Place → Job orders → Tapes → List (List ℕ)
 lackedChannels U J T = map (λ (o : Outcome Machine). o .channels (lackedBy U)) (course J T)
+
+-- what party 1 sees after the sixth order, the multiplication: its two sub-shares of every register, channels 1 and 2
+abbrev pub ownThen : List ℕ
+ownThen = 100 ∷ 8000 ∷ 8100 ∷ 5427 ∷ 5226 ∷ 0 ∷ 0 ∷ 0 ∷ 0 ∷ 0 ∷ 0 ∷ 0 ∷ 0 ∷ 0 ∷ 0 ∷ 0 ∷ []
+
+abbrev pub farThen : List ℕ
+farThen = 96 ∷ 4389 ∷ 4485 ∷ 4227 ∷ 7780 ∷ 0 ∷ 0 ∷ 0 ∷ 0 ∷ 0 ∷ 0 ∷ 0 ∷ 0 ∷ 0 ∷ 0 ∷ 0 ∷ []
+
+abbrev pub sendsThen : List ℕ
+sendsThen = 4485 ∷ 5226 ∷ replicate 70 1
+
+abbrev pub receivesThen : List ℕ
+receivesThen = 3809 ∷ 7780 ∷ replicate 70 4
+
+abbrev pub viewThen : View Seen
+viewThen =
+    record {
+      seen = record {
+        public = record {
+          kinds = replicate 5 (number R13) ++ replicate 11 empty;
+          masksAt = 1;
+          channelsAt = 2;
+          dealerAt = 4;
+        };
+        own = ownThen;
+        far = farThen;
+      };
+      sends = sendsThen;
+      receives = receivesThen;
+      refusal = 0;
+      value = 0;
+      gates = 1;
+    }
 
 -- a view without the words received
 abbrev pub withoutReceived : View Seen → View Seen
