@@ -11,8 +11,9 @@ mod text;
 use change::{image, other};
 use given::{job_j, job_k, tapes_j, tapes_k};
 use jobs::tally::Tally;
+use reference::order::Order;
 use runs::{channel, end, is_fair, run, shares, views, Outcome, FAR, LACKED};
-use text::{definitions, numbers, Figures, Line, NAMES};
+use text::{definitions, names, words, Figures, Line};
 
 fn table(course: &[Outcome]) -> Vec<Line> {
     let line = |outcome: &Outcome| {
@@ -32,7 +33,10 @@ fn figures() -> Figures {
     let (j, k) = (job_j(), job_k());
     let (course_j, course_k) = (run(&j, &tapes_j()), run(&k, &tapes_k()));
     let other = other(&j, &tapes_j()).expect("a word that shows in nothing else");
+    let multiplies = |outcome: &Outcome| matches!(outcome.order, Order::Multiply { .. });
     Figures {
+        job_j: job_j(),
+        job_k: job_k(),
         tapes_j: tapes_j(),
         tapes_k: tapes_k(),
         table: table(&course_j),
@@ -40,6 +44,10 @@ fn figures() -> Figures {
         values_k: values(&course_k),
         image: image(&j, &k, &tapes_j()),
         other: other.masks[LACKED].clone(),
+        multiplied: course_j
+            .into_iter()
+            .find(multiplies)
+            .expect("a multiplication"),
     }
 }
 
@@ -59,7 +67,7 @@ fn claims(figures: &Figures, tally: &mut Tally) {
     claim("image: receives the same", received == channel(&image, FAR));
     claim(
         "image: another sub-share",
-        shares(&j, LACKED) != shares(&image, LACKED),
+        shares(end(&j), LACKED) != shares(end(&image), LACKED),
     );
     claim(
         "image: another channel",
@@ -77,14 +85,14 @@ fn claims(figures: &Figures, tally: &mut Tally) {
     );
 }
 
-/// Each definition must have its numbers in the files.
+/// Each definition must have its words in the files, in their order.
 fn check(printed: &str, files: &[String], tally: &mut Tally) {
     let read = |file: &String| std::fs::read_to_string(file).expect("a file");
     let found: Vec<String> = files.iter().map(read).collect();
     let found = found.join("\n\n");
-    for name in NAMES {
-        let expected = numbers(printed, name);
-        let same = expected.is_some() && expected == numbers(&found, name);
+    for name in names(printed) {
+        let expected = words(printed, name);
+        let same = expected.is_some() && expected == words(&found, name);
         tally.case(same, || format!("{name} differs"));
     }
 }

@@ -119,9 +119,9 @@ pub fn channel(course: &[Outcome], i: usize) -> Vec<&[u64]> {
     course.iter().map(|o| &o.channels[i][..]).collect()
 }
 
-/// Sub-share i of each register, at the end of a run.
-pub fn shares(course: &[Outcome], i: usize) -> Vec<u64> {
-    let words = record_words(&end(course).record);
+/// Sub-share i of each register after an order; 0 of an empty one.
+pub fn shares(outcome: &Outcome, i: usize) -> Vec<u64> {
+    let words = record_words(&outcome.record);
     let registers = words.chunks(REGISTER_WORDS).take(REGISTERS);
     registers.map(|words| words[2 + i]).collect()
 }

@@ -1,15 +1,35 @@
-//! The figures as definitions, and the numbers of a definition in a text.
+//! The figures as definitions, and the words of a definition in a text.
 
-use crate::runs::Tapes;
+use crate::runs::{shares, Entry, Job, Outcome, Tapes, FAR, OWN};
+use reference::order::Order;
+use std::iter::once;
 
 /// Lines of a mask tape: the items that multiply, decompose, convert, shift (two lines), compose and the second
 /// decomposition take, and those that nothing takes.
 const LINES: [usize; 8] = [1, 10, 5, 17, 19, 6, 10, 2];
 
+/// The orders by their kind.
+const KINDS: [&str; 9] = [
+    "Deal",
+    "Add",
+    "Scale",
+    "Multiply",
+    "Decompose",
+    "Convert",
+    "Shift",
+    "Compose",
+    "Open",
+];
+
+/// The mask tapes of the run of J.
+const TAPES: [&str; 3] = ["tape₀", "tape₁", "tape₂"];
+
 /// Kind, refusal, value and gates of an order.
 pub type Line = [u64; 4];
 
 pub struct Figures {
+    pub job_j: Job,
+    pub job_k: Job,
     pub tapes_j: Tapes,
     pub tapes_k: Tapes,
     pub table: Vec<Line>,
@@ -18,12 +38,9 @@ pub struct Figures {
     pub image: Tapes,
     /// Mask tape 0 of `other`.
     pub other: Vec<u64>,
+    /// The multiplication in the run of J.
+    pub multiplied: Outcome,
 }
-
-/// The definitions by name.
-pub const NAMES: [&str; 10] = [
-    "tape₀", "tape₁", "tape₂", "T", "T′", "table", "valuesJ", "valuesK", "image", "other",
-];
 
 fn list(items: &[u64]) -> String {
     items
@@ -31,6 +48,15 @@ fn list(items: &[u64]) -> String {
         .map(|item| format!("{item} ∷ "))
         .collect::<String>()
         + "[]"
+}
+
+/// A channel's words; the last ones that are equal stand as a number of them and the word.
+fn channel(words: &[u64]) -> String {
+    let last = words.last().expect("a channel with words");
+    let other = words.iter().rposition(|word| word != last);
+    let (first, equal) = words.split_at(other.map_or(0, |k| k + 1));
+    let first: String = first.iter().map(|word| format!("{word} ∷ ")).collect();
+    format!("{first}replicate {} {last}", equal.len())
 }
 
 /// A mask tape in lines, indented by so many spaces.
@@ -44,59 +70,148 @@ fn tape(items: &[u64], indent: usize) -> String {
         rest = after;
     }
     let between = format!("\n{}∷ ", " ".repeat(indent));
-    " ".repeat(indent) + &lines.join(&between) + " ∷ []"
+    format!("\n{}{} ∷ []", " ".repeat(indent), lines.join(&between))
 }
 
-fn table(lines: &[Line]) -> String {
-    let line = |[kind, refusal, value, gates]: &Line| {
-        format!("line {kind} {refusal} {value} {gates}\n    ∷ ")
-    };
-    lines.iter().map(line).collect::<String>() + "[]"
+/// A list with each item on its own line.
+fn lines(items: impl Iterator<Item = String>) -> String {
+    let line = |item| format!("{item}\n    ∷ ");
+    format!("\n    {}[]", items.map(line).collect::<String>())
+}
+
+fn table(table: &[Line]) -> String {
+    let line =
+        |[kind, refusal, value, gates]: &Line| format!("line {kind} {refusal} {value} {gates}");
+    lines(table.iter().map(line))
 }
 
 fn image(tapes: &Tapes) -> String {
     let (dealer, lacked) = (list(&tapes.dealer), tape(&tapes.masks[0], 10));
-    format!("    record {{\n      dealer = {dealer};\n      lacked =\n{lacked};\n    }}")
+    format!("\n    record {{\n      dealer = {dealer};\n      lacked ={lacked};\n    }}")
 }
 
-fn tapes(masks: &str, dealer: &[u64]) -> String {
-    let dealer = list(dealer);
+/// The tapes of a run; its mask tapes are those of the run of J by name.
+fn tapes(tapes: &Tapes, named: &Tapes) -> String {
+    let name = |mask: &Vec<u64>| {
+        let at = named.masks.iter().position(|tape| tape == mask);
+        TAPES[at.expect("a mask tape of the run of J")]
+    };
+    let masks = tapes.masks.each_ref().map(name).join(" ");
+    let dealer = list(&tapes.dealer);
     format!("record {{ masks = three {masks}; dealer = {dealer} }}")
 }
 
-/// The definitions as text, in the order of their names.
-pub fn definitions(figures: &Figures) -> String {
-    let [t0, t1, t2] = figures.tapes_j.masks.each_ref().map(|items| tape(items, 4));
-    let t = tapes("tape₀ tape₁ tape₂", &figures.tapes_j.dealer);
-    let turned = tapes("tape₁ tape₂ tape₀", &figures.tapes_k.dealer);
-    let (values_j, values_k) = (list(&figures.values_j), list(&figures.values_k));
-    let (image, table) = (image(&figures.image), table(&figures.table));
-    let other = tape(&figures.other, 4);
+fn entry(entry: &Entry) -> String {
+    let [kind, fields @ ..] = entry.order.words();
+    let count = if kind == 9 { 1 } else { 3 };
+    let fields = fields[..count].iter().map(|field| format!(" {field}"));
+    let order = KINDS[kind as usize - 1].to_string() + &fields.collect::<String>();
+    format!("lending {} ({order})", entry.lent)
+}
+
+/// A deal of the number of that name.
+fn deal(entry: &Entry, v: &str) -> String {
+    let Order::Deal { d, e, .. } = entry.order else {
+        unreachable!("the job begins with two deals");
+    };
+    format!("lending {} (Deal {d} {e} {v})", entry.lent)
+}
+
+fn dealing(job: &Job, tapes: &Tapes) -> String {
+    let (a, b) = (deal(&job.entries[0], "a"), deal(&job.entries[1], "b"));
+    let channels = job.channels.each_ref().map(|words| channel(words));
+    let channels = channels.map(|words| format!("({words})")).join(" ");
+    let masks = tapes.masks.each_ref().map(|tape| tape.len().to_string());
+    let (masks, dealer) = (masks.join(" "), tapes.dealer.len());
     [
-        format!("abbrev tape₀ : List ℕ\ntape₀ =\n{t0}\n"),
-        format!("abbrev tape₁ : List ℕ\ntape₁ =\n{t1}\n"),
-        format!("abbrev tape₂ : List ℕ\ntape₂ =\n{t2}\n"),
-        format!("unfoldable pub T : Tapes\nT = {t}\n"),
-        format!("unfoldable pub T′ : Tapes\nT′ = {turned}\n"),
-        format!("abbrev pub table : List Line\ntable =\n    {table}\n"),
-        format!("abbrev pub valuesJ : List ℕ\nvaluesJ = {values_j}\n"),
-        format!("abbrev pub valuesK : List ℕ\nvaluesK = {values_k}\n"),
-        format!("unfoldable pub image : Hidden\nimage =\n{image}\n"),
-        format!("unfoldable pub other : List ℕ\nother =\n{other}\n"),
+        "\n    record {".to_string(),
+        format!("      entries = {a} ∷ {b} ∷ afterDeals;"),
+        format!("      channels = three {channels};"),
+        format!("      masksLength = three {masks};"),
+        format!("      dealerLength = {dealer};"),
+        "    }".to_string(),
     ]
     .join("\n")
 }
 
-/// The numbers between `NAME =` and the next blank line; none unless just one line begins so.
-pub fn numbers(text: &str, name: &str) -> Option<Vec<String>> {
+/// The job by the numbers that it deals.
+fn dealt(job: &Job) -> String {
+    let dealt = |entry: &Entry| match entry.order {
+        Order::Deal { v, .. } => format!(" {v}"),
+        _ => String::new(),
+    };
+    "dealing".to_string() + &job.entries.iter().map(dealt).collect::<String>()
+}
+
+/// The jobs, and the tapes of a run of each.
+fn given(figures: &Figures) -> Vec<String> {
+    let (job, run) = (&figures.job_j, &figures.tapes_j);
+    let lent = run.dealer.len();
+    let lending = format!("record {{ act = o; masksLent = three n n n; dealerLent = {lent} }}");
+    let after_deals = lines(job.entries[2..].iter().map(entry));
+    let dealing = dealing(job, run);
+    let (j, k) = (dealt(job), dealt(&figures.job_k));
+    let [t0, t1, t2] = run.masks.each_ref().map(|items| tape(items, 4));
+    let (t, turned) = (tapes(run, run), tapes(&figures.tapes_k, run));
+    vec![
+        format!("abbrev lending : ℕ → Order → Entry orders\nlending n o = {lending}\n"),
+        format!("unfoldable pub afterDeals : List (Entry orders)\nafterDeals ={after_deals}\n"),
+        format!("unfoldable pub dealing : ℕ → ℕ → Job orders\ndealing a b ={dealing}\n"),
+        format!("abbrev pub J : Job orders\nJ = {j}\n"),
+        format!("abbrev pub K : Job orders\nK = {k}\n"),
+        format!("abbrev tape₀ : List ℕ\ntape₀ ={t0}\n"),
+        format!("abbrev tape₁ : List ℕ\ntape₁ ={t1}\n"),
+        format!("abbrev tape₂ : List ℕ\ntape₂ ={t2}\n"),
+        format!("unfoldable pub T : Tapes\nT = {t}\n"),
+        format!("unfoldable pub T′ : Tapes\nT′ = {turned}\n"),
+    ]
+}
+
+/// What comes of them.
+fn found(figures: &Figures) -> Vec<String> {
+    let table = table(&figures.table);
+    let (values_j, values_k) = (list(&figures.values_j), list(&figures.values_k));
+    let (image, other) = (image(&figures.image), tape(&figures.other, 4));
+    let seen = &figures.multiplied;
+    let (own, far) = (list(&shares(seen, OWN)), list(&shares(seen, FAR)));
+    let [sends, receives] = [OWN, FAR].map(|i| channel(&seen.channels[i]));
+    vec![
+        format!("abbrev pub table : List Line\ntable ={table}\n"),
+        format!("abbrev pub valuesJ : List ℕ\nvaluesJ = {values_j}\n"),
+        format!("abbrev pub valuesK : List ℕ\nvaluesK = {values_k}\n"),
+        format!("unfoldable pub image : Hidden\nimage ={image}\n"),
+        format!("unfoldable pub other : List ℕ\nother ={other}\n"),
+        format!("abbrev pub ownThen : List ℕ\nownThen = {own}\n"),
+        format!("abbrev pub farThen : List ℕ\nfarThen = {far}\n"),
+        format!("abbrev pub sendsThen : List ℕ\nsendsThen = {sends}\n"),
+        format!("abbrev pub receivesThen : List ℕ\nreceivesThen = {receives}\n"),
+    ]
+}
+
+pub fn definitions(figures: &Figures) -> String {
+    [given(figures), found(figures)].concat().join("\n")
+}
+
+/// The names of a text's definitions, with what they take.
+pub fn names(text: &str) -> Vec<&str> {
+    let lines = text.lines().filter(|line| !line.starts_with(' '));
+    let heads = lines.filter_map(|line| line.split_once(" ="));
+    heads.map(|(name, _)| name).collect()
+}
+
+/// The numbers and names between `NAME =` and the next line that is not indented, comments apart; none unless just one
+/// line begins so.
+pub fn words<'a>(text: &'a str, name: &str) -> Option<Vec<&'a str>> {
     let begin = format!("{name} =");
     let starts = |line: &&str| line.starts_with(&begin);
     if text.lines().filter(starts).count() != 1 {
         return None;
     }
-    let body = text.lines().skip_while(|line| !starts(line));
-    let body = body.take_while(|line| !line.trim().is_empty());
-    let words = body.flat_map(|line| line.split(|c: char| !c.is_alphanumeric()));
-    let is_number = |word: &&str| !word.is_empty() && word.bytes().all(|b| b.is_ascii_digit());
-    Some(words.filter(is_number).map(str::to_string).collect())
+    let mut lines = text.lines().filter(|line| !line.starts_with("--"));
+    let first = lines.find_map(|line| line.strip_prefix(&begin))?;
+    let rest = lines.take_while(|line| line.is_empty() || line.starts_with(' '));
+    let between = |c: char| c.is_whitespace() || "(){};=".contains(c);
+    let words = once(first).chain(rest).flat_map(|line| line.split(between));
+    let is_word = |word: &&str| !["", "∷", "[]"].contains(word);
+    Some(words.filter(is_word).collect())
 }
