@@ -93,7 +93,7 @@ module _ (U : Place) where
     replied-seen : (m n : Machine) → seenBy U m ≡ seenBy U n → (r : Reply) → replied (length above + 1) m r ≡ replied (length above′ + 1) n r
     replied-seen m n same Silent = refl
     replied-seen m n same (Says refusal value) =
-        rw (lines-long over, ap (λ (s : Seen). s .masksAt) same, ap (λ (s : Seen). s .channelsAt) same) refl
+        rw (lines-long over, ap (λ (s : Seen). s .public .masksAt) same, ap (λ (s : Seen). s .public .channelsAt) same) refl
 
     printed-one : (ks ks′ : List Command) {k k′ : Command} → AlikeCommands k k′
         → PrintSame (above ++ (k ∷ [])) (above′ ++ (k′ ∷ [])) ks ks′ → PrintSame above above′ (k ∷ ks) (k′ ∷ ks′)
