@@ -7,7 +7,7 @@ use Rattle.gate.specs.Places.{Place, tabled}
 use Rattle.machine.specs.Checks.{Lengths, Tapes}
 use Rattle.machine.specs.Step.{lengthsOf, written}
 use Rattle.act.specs.Jobs.{Outcome, refused}
-use Rattle.act.specs.Works.{Public, Shared, Work, badItem, deals, gatesIn, leftOf, opens, publicAfter, evaluates, sharesAfter, valueFrom, wordsFrom}
+use Rattle.act.specs.Works.{Public, Shared, Work, badItem, deals, evaluates, gatesIn, leftOf, opens, publicAfter, sharesAfter, valueFrom, wordsFrom}
 
 -- refusal: 0, or the first check met, by what is public; items are tested after it. NumberRefused r: r says something of the number
 -- dealt. Small: the condition on values under which the work leaves what it should

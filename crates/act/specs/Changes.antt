@@ -14,7 +14,7 @@ use Rattle.act.specs.Jobs.{Entry, Outcome, lent, outcome}
 use Rattle.act.specs.Lawful.{Sameness, acting}
 use Rattle.act.specs.Own.{handedOf}
 use Rattle.act.specs.Secrecy.{Hidden, tapesWith}
-use Rattle.act.specs.Works.{Shared, Work, begun, deals, leftOf, opens, evaluates, wordsFrom}
+use Rattle.act.specs.Works.{Shared, Work, begun, deals, evaluates, leftOf, opens, wordsFrom}
 
 abbrev pub nothing : Hidden
 nothing = record { dealer = []; lacked = [] }

@@ -10,7 +10,7 @@ use Rattle.view.specs.Views.{lackedBy}
 use Rattle.machine.specs.Checks.{Lengths, Tapes}
 use Rattle.act.specs.Acts.{Act, isOpening, step}
 use Rattle.act.specs.Jobs.{Protocol}
-use Rattle.act.specs.Works.{Public, Shared, Work, deals, opens, evaluates, valueFrom}
+use Rattle.act.specs.Works.{Public, Shared, Work, deals, evaluates, opens, valueFrom}
 
 -- a relation of data that are the same in all that is public and in every value, though not in their shares
 abbrev pub Sameness : (E D : Type 0) → Type 1

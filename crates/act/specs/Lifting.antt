@@ -12,7 +12,7 @@ use Rattle.act.specs.Acts.{Act, firstOf, isOpening, step}
 use Rattle.act.specs.Jobs.{Outcome, refused, withState}
 use Rattle.act.specs.Lawful.{AlikeActs, Lawful, Sameness}
 use Rattle.act.specs.Performs.{KeepsPublic}
-use Rattle.act.specs.Works.{Public, Shared, Work, deals, gatesIn, opens, evaluates}
+use Rattle.act.specs.Works.{Public, Shared, Work, deals, evaluates, gatesIn, opens}
 
 -- no gate, no word, no item: each place makes f of what it holds
 abbrev pub rewriting : {E D : Type 0} → E → (D → D) → Work E D

@@ -10,7 +10,7 @@ use Rattle.view.specs.Views.{Held, around, first, ownEnds, ownSent}
 use Rattle.machine.specs.Checks.{Tapes}
 use Rattle.machine.specs.Step.{dealtShares, written}
 use Rattle.act.specs.Acts.{Act}
-use Rattle.act.specs.Works.{Public, Evaluation, Shared, Work, deals, gatesIn, leftOf, opens, publicAfter, evaluates, wordsFrom}
+use Rattle.act.specs.Works.{Evaluation, Public, Shared, Work, deals, evaluates, gatesIn, leftOf, opens, publicAfter, wordsFrom}
 
 -- what party U has: what is public, its two shares, and the channels that it sends on and receives from
 pub record Own (E D : Type 0) : Type 0 where

@@ -17,7 +17,7 @@ use Rattle.act.specs.Local.{sentBy}
 use Rattle.act.specs.Own.{Brought, Own, answer, broughtBy, ownAnswer, ownOf, ownStep}
 use Rattle.act.specs.Works.{Shared}
 use Rattle.act.proofs.ActLaw.{done-is}
-use Rattle.act.proofs.LocalLaw.{act-answer, act-own, act-causal}
+use Rattle.act.proofs.LocalLaw.{act-answer, act-causal, act-own}
 use Rattle.act.proofs.OwnLaw.{own-alike, own-value-alike, work-local}
 use Rattle.act.proofs.WorkLaw.{gates-alike}
 use Rattle.outcome.proofs.AcceptLaw.{accepted, refused-is}

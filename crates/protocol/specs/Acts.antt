@@ -14,7 +14,7 @@ use Rattle.machine.specs.Work as works
 use Rattle.machine.specs.declared.orders.Order.{Order}
 use Rattle.machine.specs.declared.registers.Machine.{Machine}
 use Rattle.act.specs.Acts.{Act}
-use Rattle.act.specs.Works.{Public, Evaluation, Shared, Work, deals, opens, evaluates, sharesRead}
+use Rattle.act.specs.Works.{Evaluation, Public, Shared, Work, deals, evaluates, opens, sharesRead}
 use Rattle.protocol.specs.Orders.{Lifts, RefusedNumber, Small, column}
 
 -- what is public beside the positions, and what a place holds: a sub-share of each register
