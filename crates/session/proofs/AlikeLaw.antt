@@ -17,7 +17,7 @@ use Rattle.session.specs.declared.replies.Reply.{Reply}
 use Rattle.session.specs.declared.replies.Reply.the-variants.{Says, Silent}
 
 -- one more line
-one-more : {ks ks′ : List Command} {k k′ : Command} → AlikeSaid ks ks′ → AlikeCommands k k′
+pub one-more : {ks ks′ : List Command} {k k′ : Command} → AlikeSaid ks ks′ → AlikeCommands k k′
     → AlikeSaid (ks ++ (k ∷ [])) (ks′ ++ (k′ ∷ []))
 one-more AlikeSaid.done a = AlikeSaid.more a AlikeSaid.done
 one-more (AlikeSaid.more b rest) a = AlikeSaid.more b (one-more rest a)
@@ -50,13 +50,13 @@ item-long k k′ (AlikeCommands.order e) = refl
 item-long k k′ AlikeCommands.unreadable = refl
 
 module _ {ks ks′ : List Command} (a : AlikeSaid ks ks′) where
-  masks-long : (i : Place) → length (tapesOf ks .masks i) ≡ length (tapesOf ks′ .masks i)
+  pub masks-long : (i : Place) → length (tapesOf ks .masks i) ≡ length (tapesOf ks′ .masks i)
   unfolding tapesOf
   masks-long i =
       rw (tabled-at (λ j. take most (flatten (map (maskOf j) ks))) i, tabled-at (λ j. take most (flatten (map (maskOf j) ks′))) i)
       (first-long (maskOf i) (mask-long i) a)
 
-  dealer-long : length (tapesOf ks .dealer) ≡ length (tapesOf ks′ .dealer)
+  pub dealer-long : length (tapesOf ks .dealer) ≡ length (tapesOf ks′ .dealer)
   unfolding tapesOf
   dealer-long = first-long itemOf item-long a
 

@@ -7,6 +7,7 @@ pub mod FeedLaw
 pub mod GrownLaw
 pub mod OutputLaw
 pub mod RecordLaw
+pub mod RelinedLaw
 pub mod ReplyLaw
 pub mod TurnLaw
 pub mod Theorems

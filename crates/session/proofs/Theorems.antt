@@ -4,7 +4,7 @@ use mathlib.Core.List.{List, [], _∷_, _++_, append-assoc, append-nil, flatten}
 use mathlib.Core.Path.{_≡_, ap, refl, sym, _∙_}
 use native.Mathlib.Omega.{arith}
 use lib.Dec.{eqb}
-use lib.ListN.{length}
+use lib.ListN.{length, take}
 use Rattle.ring.specs.Modular.{diff}
 use Rattle.ring.specs.Rings.{modulus, ringOf}
 use Rattle.gate.specs.Places.{total}
@@ -37,6 +37,7 @@ use Rattle.session.proofs.AlikeLaw as alike
 use Rattle.session.proofs.CourseLaw as courses
 use Rattle.session.proofs.OutputLaw as outputs
 use Rattle.session.proofs.RecordLaw.{empty-in}
+use Rattle.session.proofs.RelinedLaw as relines
 use Rattle.session.proofs.TurnLaw.{item-over, masks-over}
 
 pub output-printed : theorem.Output
@@ -111,7 +112,17 @@ pub printed-seen : theorem.PrintedSeen
 printed-seen = alike.printed-seen
 
 pub prints-same : theorem.PrintsSame
-prints-same U ls ls′ a e = printed-read ls ∙ printed-seen U (said ls) (said ls′) a _ _ e ∙ sym (printed-read ls′)
+unfolding output
+prints-same U bytes bytes′ a e =
+    let ls = take million (linesOf bytes) in
+    let ls′ = take million (linesOf bytes′) in
+    printed-read ls ∙ printed-seen U (said ls) (said ls′) a _ _ e ∙ sym (printed-read ls′)
+
+pub relined-run : theorem.Relined
+relined-run = relines.relined-run
+
+pub lines-hide : theorem.LinesHide
+lines-hide = relines.lines-hide
 
 pub listing : theorem.Listing
 unfolding diff modulus ringOf total anyAbove15 firstMet publicChecks emptyMachine registerAt sound soundRegister soundSlots withRegister checks dealt opened step allDigits commandOf fieldsFrom fits linesOf numberFrom numberOf numbersOf withNumbers withOne withThree ofKind decimal decimalBy printed itemTaken ordered started outputFrom output

@@ -1,18 +1,19 @@
 -- 01, "What demand 3 compares", of the lines of a job: its orders, what each is lent, its tapes; and what is printed of its course.
-use Prim.Native.Nat.{ℕ, _+_}
+use Prim.Native.Nat.{ℕ, suc, _+_}
 use mathlib.Core.Bool.{cond}
 use mathlib.Core.List.{List, [], _∷_, _++_, flatten, map}
 use mathlib.Core.Path.{_≡_}
 use lib.Dec.{ltb}
-use lib.ListN.{length, take}
-use Rattle.gate.specs.Places.{Place, p0, tabled, three}
+use lib.ListN.{getD, length, take}
+use Rattle.gate.specs.Places.{Place, next, p0, p1, p2, tabled, three}
 use Rattle.machine.specs.Checks.{Tapes}
+use Rattle.machine.specs.Registers.{emptyMachine, million}
 use Rattle.machine.specs.Step as steps
 use Rattle.machine.specs.Step.{step}
 use Rattle.machine.specs.declared.registers.Machine.{Machine}
-use Rattle.act.specs.Jobs.{Entry, Job, Outcome}
+use Rattle.act.specs.Jobs.{Entry, Fair, IsRun, Job, Outcome, course, views}
 use Rattle.protocol.specs.Orders.{orders, withoutNumber}
-use Rattle.line.specs.Lines.{commandOf}
+use Rattle.line.specs.Lines.{commandOf, linesOf}
 use Rattle.line.specs.declared.commands.Command.{Command}
 use Rattle.line.specs.declared.commands.Command.the-variants.{Dealer, Masks, Order, Unreadable}
 use Rattle.session.specs.Outputs.{State, most, replied, taken, zeroWords}
@@ -22,6 +23,10 @@ use Rattle.session.specs.declared.replies.Reply.the-variants.{Says, Sile
 -- what each of some lines says
 abbrev pub said : List (List ℕ) → List Command
 said ls = map commandOf ls
+
+-- and of those that are read of some bytes: "Reading stops after line 1,000,000"
+abbrev pub saidBy : List ℕ → List Command
+saidBy bytes = said (take million (linesOf bytes))
 
 -- "Kind 0 adds t0,t1,t2 to the strands": to strand i
 abbrev pub maskOf : Place → Command → List ℕ
@@ -108,3 +113,38 @@ printedOf above m (Order o ∷ ks) (x ∷ xs) =
     replied (length above + 1) (x .state) (Says (x .refusal) (x .value)) ++ printedOf (above ++ (Order o ∷ [])) (x .state) ks xs
 printedOf above m (Unreadable ∷ ks) xs =
     replied (length above + 1) m (Says 13 0) ++ printedOf (above ++ (Unreadable ∷ [])) m ks xs
+
+-- and all lines of a job
+abbrev pub printedRun : List Command → List ℕ
+printedRun ks = printedOf [] emptyMachine ks (course (jobOf ks) (tapesOf ks))
+
+-- "A run is a job with four tapes": the same lines with tapes T. The tape line of a kind with n of its kind above it takes T's item n,
+-- or its own where T has no such item; n and d tape lines of the two kinds stand above.
+unfoldable pub relinedFrom : (n d : ℕ) → Tapes → List Command → List Command
+relinedFrom n d T [] = []
+relinedFrom n d T (Masks t₀ t₁ t₂ ∷ ks) =
+    Masks (getD (T .masks p0) n t₀) (getD (T .masks p1) n t₁) (getD (T .masks p2) n t₂) ∷ relinedFrom (suc n) d T ks
+relinedFrom n d T (Dealer item ∷ ks) = Dealer (getD (T .dealer) d item) ∷ relinedFrom n (suc d) T ks
+relinedFrom n d T (Order o ∷ ks) = Order o ∷ relinedFrom n d T ks
+relinedFrom n d T (Unreadable ∷ ks) = Unreadable ∷ relinedFrom n d T ks
+
+abbrev pub relined : Tapes → List Command → List Command
+relined T ks = relinedFrom 0 0 T ks
+
+-- Lines that deal the numbers of ks′ and look to U like ks.
+pub record Instead (U : Place) (ks ks′ : List Command) : Type 0 where
+  pub lines : List Command
+  -- they differ from ks in the numbers dealt and the tapes' items alone
+  pub alike : AlikeSaid ks lines
+  -- the orders are those of ks′, each lent as many items
+  pub entries : entriesFrom [] lines ≡ entriesFrom [] ks′
+  -- "U's two strands, which it leaves alone"
+  pub own : tapesOf lines .masks U ≡ tapesOf ks .masks U
+  pub far : tapesOf lines .masks (next U) ≡ tapesOf ks .masks (next U)
+  -- "a fair run"
+  pub run : IsRun (jobOf lines) (tapesOf lines)
+  pub fair : Fair (jobOf lines) (tapesOf lines)
+  -- "these are equal after every order"
+  pub sees : views U (jobOf ks) (tapesOf ks) ≡ views U (jobOf lines) (tapesOf lines)
+  -- and so is what is printed
+  pub prints : printedRun ks ≡ printedRun lines

@@ -4,15 +4,29 @@ use mathlib.Core.List.{List, [], _∷_, _++_, flatten, map}
 use mathlib.Core.Path.{_≡_}
 use lib.ListN.{length, replicate}
 use Rattle.gate.specs.Places.{Place, p0, three}
+use Rattle.machine.specs.Checks.{Tapes}
 use Rattle.machine.specs.Registers.{emptyMachine, million}
 use Rattle.machine.specs.declared.registers.Machine.{Machine}
 use Rattle.act.specs.Jobs.{Alike, IsRun, Outcome, course, viewOf, views}
+use Rattle.act.specs.Secrecy.{Meet}
 use Rattle.protocol.specs.Orders.{orders, returned}
 use Rattle.line.specs.Lines.{commandOf}
 use Rattle.line.specs.Printed.{printed}
 use Rattle.line.specs.declared.commands.Command.{Command}
 use Rattle.line.specs.declared.commands.Command.the-variants.{Dealer, Masks, Unreadable}
-use Rattle.session.specs.Course.{AlikeSaid, jobOf, outcomesFrom, printedOf, said, tapesOf}
+use Rattle.session.specs.Course.{
+  AlikeSaid,
+  Instead,
+  entriesFrom,
+  jobOf,
+  outcomesFrom,
+  printedOf,
+  printedRun,
+  relined,
+  said,
+  saidBy,
+  tapesOf,
+}
 use Rattle.session.specs.Kept.{atLine, emptyWords, noLines, standingOf}
 use Rattle.session.specs.Outputs.{State, most, output, outputFrom, started, zeroWords}
 use Rattle.session.specs.Standings.{Standing, afterBytes, begun, printedBy, printedFor, printedLast}
@@ -65,8 +79,7 @@ RunRead = (ls : List (List ℕ)) → IsRun (jobOf (said ls)) (tapesOf (said ls))
 
 -- and what is printed goes by that course
 abbrev pub PrintedRead : Type 0
-PrintedRead = (ls : List (List ℕ))
-    → outputFrom 1 started ls ≡ printedOf [] emptyMachine (said ls) (course (jobOf (said ls)) (tapesOf (said ls)))
+PrintedRead = (ls : List (List ℕ)) → outputFrom 1 started ls ≡ printedRun (said ls)
 
 -- "two jobs alike in all but the numbers dealt": demand 3 speaks of any two lists of lines that differ in those and in the tapes' items alone
 abbrev pub AlikeRead : Type 0
@@ -78,11 +91,23 @@ PrintedSeen = (U : Place) (ks ks′ : List Command) → AlikeSaid ks ks′ → (
     → map (viewOf orders U) xs ≡ map (viewOf orders U) ys
     → printedOf [] emptyMachine ks xs ≡ printedOf [] emptyMachine ks′ ys
 
--- of the program's output: lines alike, whose runs look the same to one party, print the same
+-- of the program's output: inputs whose lines are alike, and whose runs look the same to one party, print the same
 abbrev pub PrintsSame : Type 0
-PrintsSame = (U : Place) (ls ls′ : List (List ℕ)) → AlikeSaid (said ls) (said ls′)
-    → views U (jobOf (said ls)) (tapesOf (said ls)) ≡ views U (jobOf (said ls′)) (tapesOf (said ls′))
-    → outputFrom 1 started ls ≡ outputFrom 1 started ls′
+PrintsSame = (U : Place) (bytes bytes′ : List ℕ)
+    → (let ks = saidBy bytes in
+    let ks′ = saidBy bytes′ in
+    AlikeSaid ks ks′ → views U (jobOf ks) (tapesOf ks) ≡ views U (jobOf ks′) (tapesOf ks′) → output bytes ≡ output bytes′)
+
+-- Every run of a job that lines make is the run of lines: the same orders, with those tapes.
+abbrev pub Relined : Type 0
+Relined = (ks : List Command) (T : Tapes) → IsRun (jobOf ks) T
+    → AlikeSaid ks (relined T ks) × (entriesFrom [] (relined T ks) ≡ entriesFrom [] ks) × (tapesOf (relined T ks) ≡ T)
+
+-- Demand 3 of a job's lines. Where ks and ks′ are alike, and ks as it stands is a fair run that opens the same as some fair run of ks′,
+-- whatever one party sees of ks it would see of lines that deal the numbers of ks′.
+abbrev pub LinesHide : Type 0
+LinesHide = (ks ks′ : List Command) → AlikeSaid ks ks′ → (T′ : Tapes) → Meet (jobOf ks) (jobOf ks′) (tapesOf ks) T′
+    → (U : Place) → Instead U ks ks′
 
 -- 01's example but for its last line: "10,1", "10,2", "1,0,13,5" and "9,0", each with byte 10
 abbrev pub asked : List ℕ
