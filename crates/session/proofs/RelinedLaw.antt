@@ -60,6 +60,7 @@ one-taken (suc N) n X t old new long onward =
     ap (λ (l : List ℕ). getD X n t ∷ l) (onward N (omega (arith, length-drop n X, length-drop (suc n) X))) ∙ sym cut
 
 module _ (T : Tapes) where
+  -- lines stay alike to others when they get other tapes
   alike-relined : {ks js : List Command} → AlikeSaid ks js → (n d : ℕ) → AlikeSaid ks (relinedFrom n d T js)
   unfolding relinedFrom
   alike-relined AlikeSaid.done n d = AlikeSaid.done
@@ -110,6 +111,7 @@ module _ (T : Tapes) where
   dealer-from n d (Order o ∷ ks) N long = dealer-from n d ks N long
   dealer-from n d (Unreadable ∷ ks) N long = dealer-from n d ks N long
 
+-- the mask tapes and the dealer's make the four
 tapes-same : {m m′ : Place → List ℕ} {k k′ : List ℕ} → m ≡ m′ → k ≡ k′
     → _≡_ {A = Tapes} (record { masks = m; dealer = k }) (record { masks = m′; dealer = k′ })
 tapes-same e f = rw (e, f) refl

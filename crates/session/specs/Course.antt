@@ -114,12 +114,12 @@ printedOf above m (Order o ∷ ks) (x ∷ xs) =
 printedOf above m (Unreadable ∷ ks) xs =
     replied (length above + 1) m (Says 13 0) ++ printedOf (above ++ (Unreadable ∷ [])) m ks xs
 
--- and all lines of a job
+-- what all lines of a job print, by the course of their own run
 abbrev pub printedRun : List Command → List ℕ
 printedRun ks = printedOf [] emptyMachine ks (course (jobOf ks) (tapesOf ks))
 
--- "A run is a job with four tapes": the same lines with tapes T. The tape line of a kind with n of its kind above it takes T's item n,
--- or its own where T has no such item; n and d tape lines of the two kinds stand above.
+-- "A run is a job with four tapes": the same lines with the items of T. A tape line with n of its kind above it takes T's items n; where T has
+-- none, as after 512, it stays, and so do all other lines. Above these lines stand n mask lines and d dealer lines.
 unfoldable pub relinedFrom : (n d : ℕ) → Tapes → List Command → List Command
 relinedFrom n d T [] = []
 relinedFrom n d T (Masks t₀ t₁ t₂ ∷ ks) =
@@ -128,6 +128,7 @@ relinedFrom n d T (Dealer item ∷ ks) = Dealer (getD (T .dealer) d item) ∷ re
 relinedFrom n d T (Order o ∷ ks) = Order o ∷ relinedFrom n d T ks
 relinedFrom n d T (Unreadable ∷ ks) = Unreadable ∷ relinedFrom n d T ks
 
+-- and all lines of a job
 abbrev pub relined : Tapes → List Command → List Command
 relined T ks = relinedFrom 0 0 T ks
 
