@@ -47,7 +47,7 @@ lengths-equal : {a a′ b b′ : Place → ℕ} {n n′ : ℕ} → a ≡ a′ �
     → _≡_ {A = Lengths} (record { masks = a; dealer = n; channels = b }) (record { masks = a′; dealer = n′; channels = b′ })
 lengths-equal p q r = rw (p, q, r)
 
-tapes-equal : {a a′ : Place → List ℕ} {l l′ : List ℕ} → a ≡ a′ → l ≡ l′
+pub tapes-equal : {a a′ : Place → List ℕ} {l l′ : List ℕ} → a ≡ a′ → l ≡ l′
     → _≡_ {A = Tapes} (record { masks = a; dealer = l }) (record { masks = a′; dealer = l′ })
 tapes-equal p q = rw (p, q)
 

@@ -12,6 +12,7 @@ use Rattle.view.proofs.AroundLaw.{around-far, around-lacked, around-own, each-a
 use Rattle.machine.specs.Checks.{Tapes}
 use Rattle.act.specs.Jobs.{Entry, Fair, IsRun, Job, Words, views}
 use Rattle.act.specs.Secrecy.{Hidden, Hides, tapesWith}
+use Rattle.act.proofs.LeftLaw.{tapes-equal}
 use Rattle.protocol.specs.Orders.{orders}
 use Rattle.protocol.proofs.Secrecy.{secrecy}
 use Rattle.line.specs.declared.commands.Command.{Command}
@@ -111,11 +112,6 @@ module _ (T : Tapes) where
   dealer-from n d (Order o ∷ ks) N long = dealer-from n d ks N long
   dealer-from n d (Unreadable ∷ ks) N long = dealer-from n d ks N long
 
--- the mask tapes and the dealer's make the four
-tapes-same : {m m′ : Place → List ℕ} {k k′ : List ℕ} → m ≡ m′ → k ≡ k′
-    → _≡_ {A = Tapes} (record { masks = m; dealer = k }) (record { masks = m′; dealer = k′ })
-tapes-same e f = rw (e, f) refl
-
 pub relined-run : theorem.Relined
 unfolding tapesOf
 relined-run ks T run =
@@ -124,7 +120,7 @@ relined-run ks T run =
     λ i. masks-from T i 0 0 ks most (run .masks i .long ∙ ap length (tabled-at (strand ks) i)) in (
       alike-relined T (alike-self ks) 0 0,
       entries-same T AlikeSaid.done 0 0 ks,
-      tapes-same (tabled-is (strand (relined T ks)) ∙ fun-ext masks) (dealer-from T 0 0 ks most (run .dealer .long)),
+      tapes-equal (tabled-is (strand (relined T ks)) ∙ fun-ext masks) (dealer-from T 0 0 ks most (run .dealer .long)),
     )
 
 -- the same orders, lent as much, make the same job
@@ -164,7 +160,7 @@ module _ (U : Place) where
 
   tapes-whole : (T : Tapes) → tapesWith U (T .masks U) (T .masks (next U)) (hidden T) ≡ T
   tapes-whole T =
-      tapes-same
+      tapes-equal
       (fun-ext
       (each-around U (λ i. around U (T .masks U) (T .masks (next U)) (T .masks (lackedBy U)) i ≡ T .masks i)
       (around-own U _ _ _) (around-far U _ _ _) (around-lacked U _ _ _)))
