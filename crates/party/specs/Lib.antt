@@ -1,0 +1,3 @@
+pub mod Own
+pub mod Steps
+pub mod Theorems
