@@ -1,3 +1,0 @@
-pub mod Own
-pub mod Steps
-pub mod Theorems
