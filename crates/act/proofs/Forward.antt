@@ -11,7 +11,22 @@ use Rattle.machine.specs.Checks.{Tapes}
 use Rattle.machine.specs.Step.{lengthsOf}
 use Rattle.act.specs.Acts.{isOpening, performed, refusalBy}
 use Rattle.act.specs.Changes.{Changed, before, differ, end, go, item, itemsK, nextK, outcomeJ, restOf, skip}
-use Rattle.act.specs.Jobs.{AlikeEntries, AlikeLists, Entry, FairAct, FairFrom, Outcome, View, courseFrom, lent, openedFrom, outcome, refused, view, viewOf}
+use Rattle.act.specs.Jobs.{
+  AlikeEntries,
+  AlikeLists,
+  Entry,
+  FairAct,
+  FairFrom,
+  Outcome,
+  View,
+  courseFrom,
+  lent,
+  openedFrom,
+  outcome,
+  refused,
+  view,
+  viewOf,
+}
 use Rattle.act.specs.Jobs as jobs
 use Rattle.act.specs.Lawful.{AlikeWork, Holding, Sameness, acting, toldAt}
 use Rattle.act.specs.Lawful as lawful

@@ -19,7 +19,29 @@ use Rattle.act.specs.Acts.{Act, firstOf, performed, refusalBy, step}
 use Rattle.act.specs.Jobs.{Outcome, refused}
 use Rattle.act.specs.Lawful.{AlikeWork, Lends, NarrowWork, toldAt}
 use Rattle.act.specs.Lawful as lawful
-use Rattle.act.specs.Lifting.{BothPublic, InBoth, KeepsSecond, LiftAlike, LiftLawful, LiftOpening, LiftStep, RewriteLawful, RewriteStep, firstPart, firstPublic, joined, liftAct, liftWork, rewriteAct, rewriting, rewritten, rewrote, secondAfter, secondPart, withSecond}
+use Rattle.act.specs.Lifting.{
+  BothPublic,
+  InBoth,
+  KeepsSecond,
+  LiftAlike,
+  LiftLawful,
+  LiftOpening,
+  LiftStep,
+  RewriteLawful,
+  RewriteStep,
+  firstPart,
+  firstPublic,
+  joined,
+  liftAct,
+  liftWork,
+  rewriteAct,
+  rewriting,
+  rewritten,
+  rewrote,
+  secondAfter,
+  secondPart,
+  withSecond,
+}
 use Rattle.act.specs.Works.{Public, Shared, Work, badItem, deals, evaluates, gatesIn, leftOf, opens, sharesAfter, valueFrom, wordsFrom}
 use Rattle.act.proofs.ActLaw.{done-is, passed, refusal-is}
 use Rattle.act.proofs.WorkLaw.{gates-alike}

@@ -1,10 +1,9 @@
--- Demand 3 of every protocol that runs lawful acts: its jobs are jobs of acts, fair, opened and seen alike.
+-- Demand 3 of every protocol that performs lawful acts: its jobs are jobs of acts, fair, opened and seen alike.
 use Prim.Native.Nat.{ℕ}
 use mathlib.Core.Bool.{Bool, cond, _&&_}
-use mathlib.Core.List.{List, [], _∷_, map}
+use mathlib.Core.List.{List, [], _∷_, head-eq-of-cons-eq, map, tail-eq-of-cons-eq}
 use mathlib.Core.Path.{_≡_, ap, ap₂, refl, subst, subst₂, sym, transport, _∙_}
 use lib.Dec.{eqb}
-use lib.ListN.{drop, getD}
 use Rattle.gate.specs.Places.{Place, next}
 use Rattle.machine.specs.Checks.{Tapes}
 use Rattle.act.specs.Acts.{step}
@@ -18,10 +17,6 @@ use Rattle.act.proofs.Acting.{acting-secrecy}
 use Rattle.act.proofs.Acting as acts
 use Rattle.act.proofs.InverseLaw.{change}
 use Rattle.act.proofs.OwnLaw.{view-equal}
-
--- equal lists have equal heads
-head-same : {A : Type 0} {x y : A} {l l′ : List A} → x ∷ l ≡ y ∷ l′ → x ≡ y
-head-same {x = x} e = ap (λ l. getD l 0 x) e
 
 opening-equal : {b b′ : Bool} {r r′ v v′ : ℕ} {l l′ : List ℕ} → b ≡ b′ → r ≡ r′ → v ≡ v′ → l ≡ l′
     → cond (b && eqb r 0) (v ∷ l) l ≡ cond (b′ && eqb r′ 0) (v′ ∷ l′) l′
@@ -142,7 +137,7 @@ module _ {P : Protocol {0}} {E D : Type 0} (S : PerformsActs P E D) where
       let o = outcome e m T c in
       let o′ = outcome f n T′ d in
       let first : viewOf Acts U (outcomeBy (S .shared) o) ≡ viewOf Acts U (outcomeBy (S .shared) o′)
-      = sym (ap (viewOf Acts U) (acted-is T e m c good)) ∙ head-same same ∙ ap (viewOf Acts U) (acted-is T′ f n d good′) in
+      = sym (ap (viewOf Acts U) (acted-is T e m c good)) ∙ head-eq-of-cons-eq same ∙ ap (viewOf Acts U) (acted-is T′ f n d good′) in
       let next-plans : S .AlikePlans (S .plan (o .state)) (S .plan (o′ .state))
       = subst₂ (S .AlikePlans) (sym (S .plan-after (e .act) m (lent e T) c good)) (sym (S .plan-after (f .act) n (lent f T′) d good′))
       (S .alike-onward (e .act) (f .act) (S .plan m) (S .plan n) (a .act) plans) in
@@ -159,7 +154,7 @@ module _ {P : Protocol {0}} {E D : Type 0} (S : PerformsActs P E D) where
       (ap (λ (v : View (Holding E D)). v .gates) first))
       (views-same tail U T T′ (o .state) (o′ .state) (o .channels) (o′ .channels) (good-next T e m c good) (good-next T′ f n d good′) next-plans
       (sym (next-is T e m c good (λ σ s x. map (viewOf Acts U) (courseFrom (actEntries σ es) s x T)))
-      ∙ ap (drop 1) same
+      ∙ tail-eq-of-cons-eq same
       ∙ next-is T′ f n d good′ (λ σ s x. map (viewOf Acts U) (courseFrom (actEntries σ fs) s x T′))))
 
   meet-to : {J K : Job P} {T T′ : Tapes} → Meet J K T T′ → Meet (jobOf J) (jobOf K) T T′

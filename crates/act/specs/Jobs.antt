@@ -1,4 +1,4 @@
--- 01, "What demand 3 compares", for whatever runs acts: jobs, runs, what is fair, what is opened, what one party sees, what is alike.
+-- 01, "What demand 3 compares", for any protocol: jobs, runs, what is fair, what is opened, what one party sees, what is alike.
 use Prim.Native.Nat.{ℕ, _<_, _^_}
 use mathlib.Core.Bool.{Bool, cond, _&&_}
 use mathlib.Core.List.{List, [], _∷_, map}

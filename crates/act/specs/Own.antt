@@ -44,7 +44,7 @@ brought U w s left =
 abbrev pub broughtBy : {E D : Type 0} → Place → Act E D → Shared E D → Tapes → Brought
 broughtBy U a m T = brought U (a .work (m .public)) (m .share) (leftOf (m .public) T)
 
--- the states of U's two shares before a run
+-- the states of U's two shares before the gates
 abbrev pub ownStarts : {D : Type 0} (R : Evaluation D) → D → D → Held (R .State)
 ownStarts R a b = record { own = R .start a; far = R .start b }
 

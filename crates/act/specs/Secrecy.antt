@@ -1,4 +1,4 @@
--- Demand 3, of any protocol: one claim about whole jobs. Proof: proofs/Secrecy.antt, of every protocol that runs lawful acts.
+-- Demand 3, of any protocol: one claim about whole jobs. Proof: proofs/Secrecy.antt, of every protocol that performs lawful acts.
 use Prim.Native.Nat.{ℕ}
 use mathlib.Core.List.{List}
 use mathlib.Core.Logic.{_↔_}

@@ -1,4 +1,4 @@
--- Data at three places, and the three kinds of work that an act does with it: it deals a number, runs gates, or opens a value.
+-- Data at three places, and the three kinds of work that an act does with it: it deals a number, evaluates gates, or opens a value.
 use Prim.Native.Nat.{ℕ, _+_}
 use mathlib.Core.Bool.{Bool, false, _||_}
 use mathlib.Core.List.{List, [], _∷_}

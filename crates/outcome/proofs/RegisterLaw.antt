@@ -11,7 +11,25 @@ use Rattle.gate.specs.Places.{Below, Place, p0, p1, p2, parts, sharing, total}
 use Rattle.gate.specs.declared.sharing.Sharing.{Sharing}
 use Rattle.gate.proofs.PlaceLaw.{each, parts-sharing}
 use Rattle.circuit.specs.Bits.{exclusive}
-use Rattle.machine.specs.Registers.{Kind, bits, empty, kindAt, kindOf, million, number, publicOf, registerAt, registerOf, sharesBelow, sharesOf, slot, sound, soundRegister, soundSlots, withRegister}
+use Rattle.machine.specs.Registers.{
+  Kind,
+  bits,
+  empty,
+  kindAt,
+  kindOf,
+  million,
+  number,
+  publicOf,
+  registerAt,
+  registerOf,
+  sharesBelow,
+  sharesOf,
+  slot,
+  sound,
+  soundRegister,
+  soundSlots,
+  withRegister,
+}
 use Rattle.machine.specs.Step.{valueOf}
 use Rattle.machine.specs.declared.registers.Machine.{Machine}
 use Rattle.machine.specs.declared.registers.Register.{Register}

@@ -26,14 +26,81 @@ use Rattle.machine.specs.declared.orders.Order.{Order}
 use Rattle.machine.specs.declared.orders.Order.the-variants.{Add, Compose, Convert, Deal, Decompose, Multiply, Open, Scale, Shift}
 use Rattle.machine.specs.declared.registers.Machine.{Machine}
 use Rattle.machine.specs.declared.registers.Slot.{Slot}
-use Rattle.outcome.specs.Theorems.{AddLeaves, ChannelsStand, ComposeLeaves, ConvertLeaves, ConvertLeavesAll, DealAccepted, DealLeaves, DealRefusedNumber, DecomposeLeaves, DecomposeLeavesAll, GatesAnswered, GatesCounted, KeepsSound, KindLeft, MultiplyLeaves, OpensValue, OthersStand, PositionsRise, PublicRefusal, RoundTrip, ScaleLeaves, ShiftLeaves, ShiftLeavesAll, Unchanged, ValueAnswered, destination, gatesFor, gatesIn, isOpening, kindLeft, valueAt, wordsIn}
+use Rattle.outcome.specs.Theorems.{
+  AddLeaves,
+  ChannelsStand,
+  ComposeLeaves,
+  ConvertLeaves,
+  ConvertLeavesAll,
+  DealAccepted,
+  DealLeaves,
+  DealRefusedNumber,
+  DecomposeLeaves,
+  DecomposeLeavesAll,
+  GatesAnswered,
+  GatesCounted,
+  KeepsSound,
+  KindLeft,
+  MultiplyLeaves,
+  OpensValue,
+  OthersStand,
+  PositionsRise,
+  PublicRefusal,
+  RoundTrip,
+  ScaleLeaves,
+  ShiftLeaves,
+  ShiftLeavesAll,
+  Unchanged,
+  ValueAnswered,
+  destination,
+  gatesFor,
+  gatesIn,
+  isOpening,
+  kindLeft,
+  valueAt,
+  wordsIn,
+}
 use Rattle.outcome.proofs.ChannelLaw.{Stands, channels-kept, stands}
 use Rattle.outcome.proofs.AcceptLaw.{Accepted, accepted, either, refusal-is, refused-is}
 use Rattle.outcome.proofs.CheckLaw.{Passed, last-aside}
-use Rattle.outcome.proofs.KindLaw.{add-fits, add-value, compose-fits, compose-value, convert-fits, convert-value, convert-value-all, count-in-range, deal-fits, deal-value, decompose-fits, decompose-gates, decompose-value, decompose-value-all, multiply-fits, multiply-value, scale-fits, scale-value, shift-fits, shift-gates, shift-value, shift-value-all}
+use Rattle.outcome.proofs.KindLaw.{
+  add-fits,
+  add-value,
+  compose-fits,
+  compose-value,
+  convert-fits,
+  convert-value,
+  convert-value-all,
+  count-in-range,
+  deal-fits,
+  deal-value,
+  decompose-fits,
+  decompose-gates,
+  decompose-value,
+  decompose-value-all,
+  multiply-fits,
+  multiply-value,
+  scale-fits,
+  scale-value,
+  shift-fits,
+  shift-gates,
+  shift-value,
+  shift-value-all,
+}
 use Rattle.outcome.proofs.OrderLaw.{light, target-is}
 use Rattle.outcome.proofs.RegisterLaw.{register-fits, sharesAt, sound-parts, value-at}
-use Rattle.outcome.proofs.WorkLaw.{FitsIn, computed-leaves, dealt-leaves, gates-are, others-kept, performed-sound, public-after, publicBy, rises, slots-kept}
+use Rattle.outcome.proofs.WorkLaw.{
+  FitsIn,
+  computed-leaves,
+  dealt-leaves,
+  gates-are,
+  others-kept,
+  performed-sound,
+  public-after,
+  publicBy,
+  rises,
+  slots-kept,
+}
 
 pub unchanged : Unchanged
 unchanged = refused-is

@@ -1,4 +1,4 @@
--- Demand 3 of the nine orders (specs/Orders.antt): they run lawful acts.
+-- Demand 3 of the nine orders (specs/Orders.antt): they perform lawful acts.
 use Prim.Native.Nat.{ℕ, zero, suc}
 use mathlib.Core.Bool.{true}
 use mathlib.Core.List.{List}

@@ -33,17 +33,17 @@ use Rattle.outcome.proofs.CheckLaw.{numbered}
 use Rattle.outcome.proofs.OrderLaw.{light, numbered-public}
 use Rattle.outcome.proofs.RegisterLaw.{sharesAt}
 use Rattle.outcome.proofs.WorkLaw.{Light, public-after}
-use Rattle.protocol.specs.Acts.{Column, Kinds, actOf, keptAs, publicFor, runOf, sharedOf, workFor}
+use Rattle.protocol.specs.Acts.{Column, Kinds, actOf, keptAs, publicFor, evaluationOf, sharedOf, workFor}
 use Rattle.protocol.specs.Orders.{column, returned}
 use Rattle.protocol.proofs.SharedLaw.{column-at, column-with, value-is}
 
 starts-at : (C : Circuit) (d x y : ℕ) (kind : Kind) (m : Machine)
-    → begun (runOf C d x y kind) (column m) ≡ starts C (sharesAt m x) (sharesAt m y)
+    → begun (evaluationOf C d x y kind) (column m) ≡ starts C (sharesAt m x) (sharesAt m y)
 starts-at C d x y kind m = ap tabled (fun-ext (λ i. ap₂ (C .start) (column-at m x i) (column-at m y i)))
 
 module _ (m : Machine) (left : Tapes) (c : Place → List ℕ) where
   ends-at : (C : Circuit) (d x y : ℕ) (kind : Kind) (i : Place)
-      → C .finish i (ends (C .gates) (begun (runOf C d x y kind) (column m)) (left .masks) i)
+      → C .finish i (ends (C .gates) (begun (evaluationOf C d x y kind) (column m)) (left .masks) i)
       ≡ parts (sharing (result C (sharesAt m x) (sharesAt m y) (left .masks))) i
   unfolding result
   ends-at C d x y kind i =
@@ -52,11 +52,11 @@ module _ (m : Machine) (left : Tapes) (c : Place → List ℕ) where
       ∙ sym (ap (λ f. f i) (parts-sharing (result C (sharesAt m x) (sharesAt m y) (left .masks))))
 
   computed-columns : (C : Circuit) (d x y : ℕ) (kind : Kind)
-      → tabled (λ i. set (column m i) d (keptAs kind (C .finish i (ends (C .gates) (begun (runOf C d x y kind) (column m)) (left .masks) i))))
+      → tabled (λ i. set (column m i) d (keptAs kind (C .finish i (ends (C .gates) (begun (evaluationOf C d x y kind) (column m)) (left .masks) i))))
       ≡ column (computed C d x y kind m left c .machine)
   unfolding computed
   computed-columns C d x y kind =
-      tabled-is (λ i. set (column m i) d (keptAs kind (C .finish i (ends (C .gates) (begun (runOf C d x y kind) (column m)) (left .masks) i))))
+      tabled-is (λ i. set (column m i) d (keptAs kind (C .finish i (ends (C .gates) (begun (evaluationOf C d x y kind) (column m)) (left .masks) i))))
       ∙ fun-ext (λ i.
       ap (λ (n : ℕ). set (column m i) d (keptAs kind n)) (ends-at C d x y kind i)
       ∙ sym (column-with (moved m (gatesOf C) (gatesOf C) 0) d kind (sharing (result C (sharesAt m x) (sharesAt m y) (left .masks))) i))
@@ -73,7 +73,7 @@ module _ (m : Machine) (left : Tapes) (c : Place → List ℕ) where
   columns-are (works.opens x) = refl
 
   computed-channels : (C : Circuit) (d x y : ℕ) (kind : Kind)
-      → tabled (λ i. written (m .«channels_at») (sent (C .gates) (begun (runOf C d x y kind) (column m)) (left .masks) i) (c i))
+      → tabled (λ i. written (m .«channels_at») (sent (C .gates) (begun (evaluationOf C d x y kind) (column m)) (left .masks) i) (c i))
       ≡ computed C d x y kind m left c .channels
   unfolding computed channelled
   computed-channels C d x y kind =

@@ -47,8 +47,8 @@ keptAs (number r) v = v
 keptAs (bits l) v = v
 
 -- a circuit from registers x and y to register d
-abbrev pub runOf : Circuit → (d x y : ℕ) → Kind → Evaluation Column
-runOf C d x y kind =
+abbrev pub evaluationOf : Circuit → (d x y : ℕ) → Kind → Evaluation Column
+evaluationOf C d x y kind =
     record {
       State = C .State;
       start = λ a. C .start (shareAt x a) (shareAt y a);
@@ -59,8 +59,8 @@ runOf C d x y kind =
 abbrev pub workFor : registers.Public → works.Work → Work Kinds Column
 workFor p (works.deals d e v) =
     deals (set (p .kinds) d (numberKind (ringOf e))) (modulus e) v (λ a z. set a d (keptAs (numberKind (ringOf e)) z))
-workFor p (works.adjusts C d x y kind) = evaluates (set (p .kinds) d kind) (runOf C d x y kind)
-workFor p (works.computes C d x y kind) = evaluates (set (p .kinds) d kind) (runOf C d x y kind)
+workFor p (works.adjusts C d x y kind) = evaluates (set (p .kinds) d kind) (evaluationOf C d x y kind)
+workFor p (works.computes C d x y kind) = evaluates (set (p .kinds) d kind) (evaluationOf C d x y kind)
 workFor p (works.opens x) = opens (p .kinds) (shareAt x) (valueIn (kindAt p x))
 
 -- 4a is below p, of the number that an order decomposes, converts or shifts

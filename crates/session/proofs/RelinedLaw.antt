@@ -82,13 +82,14 @@ module _ (T : Tapes) where
       (entries-same (one-more over (AlikeCommands.order refl)) n d ks)
   entries-same over n d (Unreadable ∷ ks) = entries-same (one-more over AlikeCommands.unreadable) n d ks
 
-  -- the tapes are T's from the items on that stand above
+  -- the item of a mask line, at a place
   mask-at : (i : Place) (n t₀ t₁ t₂ : ℕ)
       → three (getD (T .masks p0) n t₀) (getD (T .masks p1) n t₁) (getD (T .masks p2) n t₂) i ≡ getD (T .masks i) n (three t₀ t₁ t₂ i)
   mask-at p0 n t₀ t₁ t₂ = refl
   mask-at p1 n t₀ t₁ t₂ = refl
   mask-at p2 n t₀ t₁ t₂ = refl
 
+  -- the tapes are T's from the items on that stand above
   masks-from : (i : Place) (n d : ℕ) (ks : List Command) (N : ℕ)
       → length (drop n (T .masks i)) ≡ length (take N (flatten (map (maskOf i) ks)))
       → take N (flatten (map (maskOf i) (relinedFrom n d T ks))) ≡ drop n (T .masks i)

@@ -1,4 +1,5 @@
--- 01, "What demand 3 compares", of the lines of a job: its orders, what each is lent, its tapes; and what is printed of its course.
+-- 01, "What demand 3 compares", of the lines of a job: its orders, what each is lent, its tapes; what is printed of its course; the same
+-- lines with other tapes, and what one party would see instead.
 use Prim.Native.Nat.{ℕ, suc, _+_}
 use mathlib.Core.Bool.{cond}
 use mathlib.Core.List.{List, [], _∷_, _++_, flatten, map}

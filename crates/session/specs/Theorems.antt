@@ -103,7 +103,7 @@ abbrev pub Relined : Type 0
 Relined = (ks : List Command) (T : Tapes) → IsRun (jobOf ks) T
     → AlikeSaid ks (relined T ks) × (entriesFrom [] (relined T ks) ≡ entriesFrom [] ks) × (tapesOf (relined T ks) ≡ T)
 
--- Demand 3 of a job's lines. Where ks and ks′ are alike, and ks as it stands is a fair run that opens the same as some fair run of ks′,
+-- What follows from demand 3 for lines. Where ks and ks′ are alike, and ks as it stands is a fair run that opens the same as some fair run of ks′,
 -- whatever one party sees of ks it would see of lines that deal the numbers of ks′.
 abbrev pub LinesHide : Type 0
 LinesHide = (ks ks′ : List Command) → AlikeSaid ks ks′ → (T′ : Tapes) → Meet (jobOf ks) (jobOf ks′) (tapesOf ks) T′
