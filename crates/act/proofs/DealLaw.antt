@@ -13,23 +13,22 @@ deal-total : (p v a b : ℕ) → 0 < p → Cong p (diff p (diff p v a) b + b + a
 deal-total p v a b h =
     cong-trans (cong-add (diff-add p (diff p v a) b h) (cong-refl a)) (diff-add p v a h)
 
+-- a sub-share, from the number and the other two
+lost : (p v a b c : ℕ) → a < p → Cong p (a + c + b) v → diff p (diff p v b) c ≡ a
+lost p v a b c h total =
+    sym (diff-only c (omega arith) h (cong-cancel b (omega arith) (cong-trans total (cong-sym (diff-add p v b (omega arith))))))
+
 lost-first : (p v a b : ℕ) → a < p → diff p (diff p v b) (diff p (diff p v a) b) ≡ a
 lost-first p v a b h =
     let x = diff p (diff p v a) b in
     let order : a + x + b ≡ x + b + a = omega arith in
-    sym
-    (diff-only x (omega arith) h
-    (cong-cancel b (omega arith)
-    (cong-trans (cong-of-eq order) (cong-trans (deal-total p v a b (omega arith)) (cong-sym (diff-add p v b (omega arith)))))))
+    lost p v a b x h (cong-trans (cong-of-eq order) (deal-total p v a b (omega arith)))
 
 lost-second : (p v a b : ℕ) → b < p → diff p (diff p v (diff p (diff p v a) b)) a ≡ b
 lost-second p v a b h =
     let x = diff p (diff p v a) b in
     let order : b + a + x ≡ x + b + a = omega arith in
-    sym
-    (diff-only a (omega arith) h
-    (cong-cancel x (omega arith)
-    (cong-trans (cong-of-eq order) (cong-trans (deal-total p v a b (omega arith)) (cong-sym (diff-add p v x (omega arith)))))))
+    lost p v b x a h (cong-trans (cong-of-eq order) (deal-total p v a b (omega arith)))
 
 -- the two items, from the pair that U is handed
 pub items-back : (U : Place) (p v r₀ r₁ : ℕ) → r₀ < p → r₁ < p

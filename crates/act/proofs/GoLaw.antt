@@ -226,21 +226,24 @@ module _ {E D : Type 0} {Same : Sameness E D} {s : Shared E D} (U : Place) (own 
   lend : Lends K (n .public) (lengthsOf (lent f (tapesWith U own far k)) d)
   lend = subst (Lends K (n .public)) lengths (alike .act .right .lends (n .public) _ (passed (f .act) n (lent f (tapesWith U own far h)) d doneK .0))
 
+  -- as many items are decoded as K takes
+  dealer-many : length (items .dealer) ≡ itemsIn K
+  dealer-many = decoded-dealer U K (n .share) (left .masks U) (left .masks (next U)) (wordsFrom J (m .share) left (next U)) (handedOf U J left)
+
+  lacked-many : length (items .lacked) ≡ gatesIn K
+  lacked-many = decoded-lacked U K (n .share) (left .masks U) (left .masks (next U)) (wordsFrom J (m .share) left (next U)) (handedOf U J left)
+
   -- K takes the items decoded
   segment-is : segment U K left′ ≡ items
   segment-is =
-      let t = left .masks U in
-      let t′ = left .masks (next U) in
-      let W = wordsFrom J (m .share) left (next U) in
-      let pr = handedOf U J left in
       hidden-equal
       (taken-are (itemsIn K) (n .public .dealerAt) (f .dealerLent) (k .dealer) (items .dealer) (out .dealer)
-      (dealer-lent K (n .public) _ lend) (ap (λ (s : Hidden). s .dealer) rest) (decoded-dealer U K (n .share) t t′ W pr))
+      (dealer-lent K (n .public) _ lend) (ap (λ (s : Hidden). s .dealer) rest) dealer-many)
       (ap (take (gatesIn K)) (left-lacked U own far (n .public) f k)
       ∙ taken-are (gatesIn K) (n .public .masksAt) (f .masksLent (lackedBy U)) (k .lacked) (items .lacked) (out .lacked)
       (rw (lacked-length U own far f k d) at (masks-lent K (n .public) _ (lackedBy U) lend))
       (ap (λ (s : Hidden). s .lacked) rest)
-      (decoded-lacked U K (n .share) t t′ W pr))
+      lacked-many)
 
   -- the same counts are lent from the same positions
   left-level : (x : Hidden)
@@ -296,12 +299,8 @@ module _ {E D : Type 0} {Same : Sameness E D} {s : Shared E D} (U : Place) (own 
   -- what is left after the act
   pub rest-after : restOf (nextK U own far h e f m n c d .state) k ≡ out
   rest-after =
-      let t = left .masks U in
-      let t′ = left .masks (next U) in
-      let W = wordsFrom J (m .share) left (next U) in
-      let pr = handedOf U J left in
       hidden-equal
       (beyond (itemsIn K) (n .public .dealerAt) (k .dealer) (items .dealer) (out .dealer) refl
-      (ap (λ (s : Hidden). s .dealer) rest) (decoded-dealer U K (n .share) t t′ W pr))
+      (ap (λ (s : Hidden). s .dealer) rest) dealer-many)
       (beyond (gatesIn K) (n .public .masksAt) (k .lacked) (items .lacked) (out .lacked) refl
-      (ap (λ (s : Hidden). s .lacked) rest) (decoded-lacked U K (n .share) t t′ W pr))
+      (ap (λ (s : Hidden). s .lacked) rest) lacked-many)
