@@ -1,7 +1,7 @@
 -- What the code works out at one place is the definition's share.
 use Prim.Native.Nat.{ℕ, _+_, _*_, _%_, _<_}
 use mathlib.Core.Path.{_≡_, _∙_}
-use native.Mathlib.Nat.{add-mod-mod, mod-lt}
+use native.Mathlib.Nat.{add-mod-mod}
 use native.Mathlib.Omega.{arith}
 use lib.Bits.{bitXor}
 use Rattle.ring.specs.Modular.{diff}
@@ -22,27 +22,24 @@ join-is m u v uv pos sum double is =
     is ∙ diff-cong pos (cong-trans (cong-of-eq sum) (cong-mod m (u + v)))
     (cong-trans (cong-of-eq double) (cong-trans (cong-mod m (uv + uv)) (cong-of-eq twice)))
 
-pub reduced-lt : (a : ℕ) {m n : ℕ} → m ≡ n → 0 < n → a % m < n
-reduced-lt a e pos = rw e (mod-lt a pos)
-
 -- 4^(-1) × (x - p q)
-pub quartered-is : (n k p x q : ℕ) {m j pq rest r : ℕ} → 0 < n
-    → m ≡ n → pq ≡ p * q % n → rest ≡ diff n (x % m) pq → j ≡ k → r ≡ j * rest % n
+pub quartered-is : (n k p x q : ℕ) {y j pq rest r : ℕ} → 0 < n
+    → y ≡ x % n → pq ≡ p * q % n → rest ≡ diff n y pq → j ≡ k → r ≡ j * rest % n
     → r ≡ k * diff n x (p * q) % n
-quartered-is n k p x q pos known product difference inverse is =
+quartered-is n k p x q pos reduced product difference inverse is =
     let rest-is : diff n (x % n) (p * q % n) ≡ diff n x (p * q) = diff-cong pos (cong-mod n x) (cong-mod n (p * q)) in
-    rw (is, inverse, difference, product, known, rest-is)
+    rw (is, inverse, difference, product, reduced, rest-is)
 
 -- and by place, where p was reduced
 pub settled : (n k p : ℕ) (x q : Sharing) {m a z₀ z₁ z₂ : ℕ} → 0 < n
-    → m ≡ n → a ≡ p
-    → z₀ ≡ k * diff n (x .s0) (a % m * q .s0) % n
-    → z₁ ≡ k * diff n (x .s1) (a % m * q .s1) % n
-    → z₂ ≡ k * diff n (x .s2) (a % m * q .s2) % n
+    → m ≡ p → a ≡ m % n
+    → z₀ ≡ k * diff n (x .s0) (a * q .s0) % n
+    → z₁ ≡ k * diff n (x .s1) (a * q .s1) % n
+    → z₂ ≡ k * diff n (x .s2) (a * q .s2) % n
     → (i : Place) → three z₀ z₁ z₂ i ≡ k * diff n (parts x i) (p * parts q i) % n
-settled n k p x q {m} {a} {z₀} {z₁} {z₂} pos known large e₀ e₁ e₂ =
-    let same : (y s : ℕ) → diff n y (a % m * s) ≡ diff n y (p * s)
-    = λ y s. rw (known, large) (diff-cong pos (cong-refl y) (cong-mul (cong-mod n p) (cong-refl s))) in
+settled n k p x q {m} {a} {z₀} {z₁} {z₂} pos known reduced e₀ e₁ e₂ =
+    let same : (y s : ℕ) → diff n y (a * s) ≡ diff n y (p * s)
+    = λ y s. rw (reduced, known) (diff-cong pos (cong-refl y) (cong-mul (cong-mod n p) (cong-refl s))) in
     each (λ i. three z₀ z₁ z₂ i ≡ k * diff n (parts x i) (p * parts q i) % n)
     (rw (← same (x .s0) (q .s0)) e₀) (rw (← same (x .s1) (q .s1)) e₁) (rw (← same (x .s2) (q .s2)) e₂)
 

@@ -20,7 +20,7 @@ use ring::bit;
 fn negated(x: u64) -> u64
     ensures { λ r. ⌜ r ≡ diff 4 0 x ⌝ }
 {
-    (4 - x % 4) % 4
+    (4 - (x & 3)) & 3
 }
 
 // The shares of the majority of bits 0 of r_0, r_1 and r_2, by one gate.
@@ -108,8 +108,7 @@ fn quartered(f: Ring, p: u64, x: u64, q: u64) -> u64
     ensures is { λ r. ⌜ r ≡ quarterOf f * diff (modulusOf f) x (p * q) % modulusOf f ⌝ }
     ensures below { λ r. ⌜ r < modulusOf f ⌝ }
 {
-    let m = f.modulus();
-    let rest = f.sub(x % m, f.mul(p, q));
+    let rest = f.sub(f.reduce(x), f.mul(p, q));
     f.mul(f.quarter(), rest)
 }
 
@@ -119,8 +118,7 @@ fn settle(e: Ring, f: Ring, x: Sharing, q: Sharing) -> Sharing
     ensures is { λ z. ⌜ ((i : Place) → parts z i ≡ quarterOf f * diff (modulusOf f) (parts x i) (modulusOf e * parts q i) % modulusOf f) ⌝ }
     ensures below { λ z. ⌜ InRange (modulusOf f) z ⌝ }
 {
-    let m = f.modulus();
-    let p = e.modulus() % m;
+    let p = f.reduce(e.modulus());
     let s0 = quartered(f, p, x.s0, q.s0);
     let s1 = quartered(f, p, x.s1, q.s1);
     let s2 = quartered(f, p, x.s2, q.s2);

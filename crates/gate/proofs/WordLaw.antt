@@ -1,12 +1,12 @@
 -- The words as the code works them out are the definition's.
-use Prim.Native.Nat.{ℕ, _+_, _*_, _%_, _<_, _≤_}
-use mathlib.Core.Path.{_≡_, _∙_, refl, sym}
-use native.Mathlib.Nat.{le-refl, mul-le-mul}
+use Prim.Native.Nat.{ℕ, _+_, _*_, _-_, _%_, _<_, _≤_}
+use mathlib.Core.Path.{_≡_, _∙_, ap, refl, sym}
+use native.Mathlib.Nat.{le-refl, mod-eq-of-lt, mul-le-mul}
 use native.Mathlib.Omega.{arith}
 use lib.Bits.{and-lt, bitAnd, bitXor, xor-lt}
 use Rattle.ring.specs.Modular.{Cong, diff}
 use Rattle.ring.proofs.BitLaw.{and-bit, xor-bit}
-use Rattle.ring.proofs.CongLaw.{cong-add, cong-below, cong-mod, cong-mul, cong-of-eq, cong-refl, cong-trans}
+use Rattle.ring.proofs.CongLaw.{cong-add, cong-below, cong-mod, cong-mul, cong-of-eq, cong-refl, cong-sym, cong-trans}
 use Rattle.gate.specs.Gates.{crossed, gated, mask, word}
 use Rattle.gate.specs.Places.{InRange, PairBelow, held, p0, p1, p2, pair, parts, sharing, three}
 use Rattle.gate.specs.declared.sharing.Sharing.{Sharing}
@@ -34,6 +34,18 @@ ring-word-is p x xf y yf t tf sum both cross c d hs hb hx hc hd =
     = cong-trans (cong-of-eq hc) (cong-trans (cong-mod p (both + cross)) (cong-add b-cong x-cong)) in
     let spread : x * (y + yf) + xf * y ≡ x * y + x * yf + xf * y = omega arith in
     word-from p x xf y yf t tf c (cong-trans c-cong (cong-of-eq spread)) hd
+
+-- with the mask not reduced
+pub ring-word-at-once : (p x xf y yf t tf sum : ℕ)
+    → sum ≡ (y + yf) % p → tf < p → (x * sum + xf * y + (t + (p - tf))) % p ≡ word p (pair x xf) (pair y yf) (pair t tf)
+unfolding word crossed mask diff
+ring-word-at-once p x xf y yf t tf sum hs below =
+    let both : Cong p (x * sum) (x * (y + yf))
+    = cong-mul (cong-refl x) (cong-trans (cong-of-eq hs) (cong-mod p (y + yf))) in
+    let spread : x * (y + yf) + xf * y ≡ x * y + x * yf + xf * y = omega arith in
+    let masked : Cong p (t + (p - tf)) ((t + (p - tf % p)) % p)
+    = cong-trans (cong-of-eq (ap (λ (n : ℕ). t + (p - n)) (sym (mod-eq-of-lt below)))) (cong-sym (cong-mod p (t + (p - tf % p)))) in
+    cong-add (cong-trans (cong-add both (cong-refl (xf * y))) (cong-of-eq spread)) masked .same
 
 -- modulo 2 adding is subtracting
 masked-bit : (c t tf d z : ℕ) → d ≡ (c + t) % 2 → z ≡ (d + tf) % 2 → z ≡ (c + diff 2 t tf) % 2

@@ -7,22 +7,21 @@ ghost use Rattle.gate.specs.Places.{InRange, PairBelow, pair, parts, sha
 use crate::sharing::Sharing;
 use ring::Ring;
 use ring::add_mod;
-use ring::mul_mod;
-use ring::sub_mod;
+use ring::mul_add_mod;
 
 // z_i modulo p = 2^(2k+1) - 1, from the sub-shares i and i + 1 of x, of y and of the items.
 fn ring_word(k: u64, p: u64, x: u64, xf: u64, y: u64, yf: u64, t: u64, tf: u64) -> u64
     requires modulus { ⌜ p ≡ modulus (2 * k + 1) ⌝ }
-    requires width { ⌜ (1 ≤ k) × (k ≤ 30) ⌝ }
+    requires width { ⌜ (2 ≤ k) × (k ≤ 30) ⌝ }
     requires left { ⌜ PairBelow p (pair x xf) ⌝ }
     requires right { ⌜ PairBelow p (pair y yf) ⌝ }
     requires items { ⌜ PairBelow p (pair t tf) ⌝ }
     ensures is { λ z. ⌜ z ≡ word p (pair x xf) (pair y yf) (pair t tf) ⌝ }
     ensures below { λ z. ⌜ z < p ⌝ }
 {
-    let both = mul_mod(k, p, x, add_mod(p, y, yf));
-    let crossed = add_mod(p, both, mul_mod(k, p, xf, y));
-    add_mod(p, crossed, sub_mod(p, t, tf))
+    let e = 2 * k + 1;
+    let sum = add_mod(e, p, y, yf);
+    mul_add_mod(k, p, x, sum, xf, y, t + (p - tf))
 }
 
 // z_i of bits, from the same.
@@ -76,11 +75,10 @@ pub fn words_of_bits(r: Ring, b0: u64, b1: u64, t: Sharing) -> Sharing
     ensures is { λ z. ⌜ z ≡ sharing (gated (modulusOf r) (three b0 0 0) (three 0 b1 0) (parts t)) ⌝ }
     ensures below { λ z. ⌜ InRange (modulusOf r) z ⌝ }
 {
-    let p = r.modulus();
     Sharing {
-        s0: add_mod(p, b0 * b1, sub_mod(p, t.s0, t.s1)),
-        s1: sub_mod(p, t.s1, t.s2),
-        s2: sub_mod(p, t.s2, t.s0),
+        s0: r.add(b0 * b1, r.sub(t.s0, t.s1)),
+        s1: r.sub(t.s1, t.s2),
+        s2: r.sub(t.s2, t.s0),
     }
 }
 
@@ -92,11 +90,10 @@ pub fn words_by_bit(r: Ring, x: Sharing, b2: u64, t: Sharing) -> Sharing
     ensures is { λ z. ⌜ z ≡ sharing (gated (modulusOf r) (parts x) (three 0 0 b2) (parts t)) ⌝ }
     ensures below { λ z. ⌜ InRange (modulusOf r) z ⌝ }
 {
-    let p = r.modulus();
-    let sum = add_mod(p, x.s2, x.s0);
+    let sum = r.add(x.s2, x.s0);
     Sharing {
-        s0: sub_mod(p, t.s0, t.s1),
-        s1: add_mod(p, x.s1 * b2, sub_mod(p, t.s1, t.s2)),
-        s2: add_mod(p, sum * b2, sub_mod(p, t.s2, t.s0)),
+        s0: r.sub(t.s0, t.s1),
+        s1: r.add(x.s1 * b2, r.sub(t.s1, t.s2)),
+        s2: r.add(sum * b2, r.sub(t.s2, t.s0)),
     }
 }

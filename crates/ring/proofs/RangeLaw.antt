@@ -50,16 +50,20 @@ modulus-gt r = omega (arith, modulus-suc (widthOf r), pow-mono {i = 13} {j = wid
 pub quarter-lt : (r : Ring) → quarterOf r < modulusOf r
 quarter-lt r = quarter-below (widthOf r) (omega (arith, width-ge r))
 
--- what the arithmetic on numbers asks of k = e / 2 and p
+-- what the arithmetic on numbers asks of e and p
+pub record Sized (e p : ℕ) : Type 0 where
+  pub is : p ≡ modulus e
+  pub least : 13 ≤ e
+  pub most : e < 64
+
+pub sized : (r : Ring) {e p : ℕ} → e ≡ widthOf r → p ≡ modulusOf r → Sized e p
+sized r he hp = record { is = rw he hp; least = omega (arith, width-ge r); most = omega (arith, width-le r) }
+
+-- and of k = e / 2 and p
 pub record Halved (k p : ℕ) : Type 0 where
   pub is : p ≡ modulus (2 * k + 1)
-  pub least : 1 ≤ k
+  pub least : 2 ≤ k
   pub most : k ≤ 30
 
 pub halved : (r : Ring) {e p : ℕ} → e ≡ widthOf r → p ≡ modulusOf r → Halved (e / 2) p
 halved r he hp = record { is = rw (he, width-odd r) hp; least = omega (arith, width-ge r); most = omega (arith, width-le r) }
-
--- the sum of two numbers below such a p fits a word
-pub halved-room : {k p : ℕ} → p ≡ modulus (2 * k + 1) → k ≤ 30 → p ≤ 2 ^ 63
-unfolding modulus
-halved-room {k} is most = omega (arith, pow-mono {i = 2 * k + 1} {j = 63} (omega arith))

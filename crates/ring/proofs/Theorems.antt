@@ -63,11 +63,12 @@ pub quarter-below : (e : ℕ) → 2 ≤ e → quarter e < modulus e
 unfolding quarter
 quarter-below e h = omega (arith, four-quarters e h, modulus-suc e, pow-pos (e - 2))
 
--- the columns of a product of two-digit numbers at base 2L, where the middle one is cut at L
-columns : (L a₁ a₀ b₁ b₀ m₁ m₀ : ℕ)
-    → a₁ * b₀ + a₀ * b₁ ≡ m₁ * L + m₀
-    → (2 * (a₁ * b₁) + m₁) * (2 * (L * L)) + (m₀ * (2 * L) + a₀ * b₀) ≡ (a₁ * (2 * L) + a₀) * (b₁ * (2 * L) + b₀)
-columns L a₁ a₀ b₁ b₀ m₁ m₀ middle = omega (arith, ap (λ (n : ℕ). n * (2 * L)) middle)
+-- the columns of two products of two-digit numbers at base 2L, where the middle one is cut at L
+columns : (L a₁ a₀ b₁ b₀ c₁ c₀ d₁ d₀ m₁ m₀ : ℕ)
+    → a₁ * b₀ + a₀ * b₁ + (c₁ * d₀ + c₀ * d₁) ≡ m₁ * L + m₀
+    → (2 * (a₁ * b₁ + c₁ * d₁) + m₁) * (2 * (L * L)) + (m₀ * (2 * L) + (a₀ * b₀ + c₀ * d₀))
+    ≡ (a₁ * (2 * L) + a₀) * (b₁ * (2 * L) + b₀) + (c₁ * (2 * L) + c₀) * (d₁ * (2 * L) + d₀)
+columns L a₁ a₀ b₁ b₀ c₁ c₀ d₁ d₀ m₁ m₀ middle = omega (arith, ap (λ (n : ℕ). n * (2 * L)) middle)
 
 -- 2^(k+1) and 2^(2k+1) from 2^k
 pub next-power : (k : ℕ) → 2 ^ (k + 1) ≡ 2 * 2 ^ k
@@ -79,9 +80,11 @@ odd-power k =
     ap (λ (n : ℕ). 2 ^ n) twice ∙ omega (arith, pow-add 2 (k + k) 1, pow-add 2 k k)
 
 pub product : Product
-product k a₁ a₀ b₁ b₀ m₁ m₀ middle =
-    let cols : (2 * (a₁ * b₁) + m₁) * 2 ^ (2 * k + 1) + (m₀ * 2 ^ (k + 1) + a₀ * b₀) ≡ (a₁ * 2 ^ (k + 1) + a₀) * (b₁ * 2 ^ (k + 1) + b₀)
-    = rw (next-power k, odd-power k) (columns (2 ^ k) a₁ a₀ b₁ b₀ m₁ m₀ middle) in
-    let regroup : 2 * (a₁ * b₁) + m₁ + m₀ * 2 ^ (k + 1) + a₀ * b₀ ≡ 2 * (a₁ * b₁) + m₁ + (m₀ * 2 ^ (k + 1) + a₀ * b₀) = omega arith in
-    cong-trans (cong-of-eq regroup)
-    (cong-trans (cong-sym (folds (2 * k + 1) (2 * (a₁ * b₁) + m₁) (m₀ * 2 ^ (k + 1) + a₀ * b₀))) (cong-of-eq cols))
+product k a₁ a₀ b₁ b₀ c₁ c₀ d₁ d₀ m₁ m₀ middle =
+    let high : ℕ = 2 * (a₁ * b₁ + c₁ * d₁) + m₁ in
+    let low : ℕ = a₀ * b₀ + c₀ * d₀ in
+    let cols : high * 2 ^ (2 * k + 1) + (m₀ * 2 ^ (k + 1) + low)
+    ≡ (a₁ * 2 ^ (k + 1) + a₀) * (b₁ * 2 ^ (k + 1) + b₀) + (c₁ * 2 ^ (k + 1) + c₀) * (d₁ * 2 ^ (k + 1) + d₀)
+    = rw (next-power k, odd-power k) (columns (2 ^ k) a₁ a₀ b₁ b₀ c₁ c₀ d₁ d₀ m₁ m₀ middle) in
+    let regroup : high + m₀ * 2 ^ (k + 1) + low ≡ high + (m₀ * 2 ^ (k + 1) + low) = omega arith in
+    cong-trans (cong-of-eq regroup) (cong-trans (cong-sym (folds (2 * k + 1) high (m₀ * 2 ^ (k + 1) + low))) (cong-of-eq cols))

@@ -25,53 +25,50 @@ modulus-shifted : (j k : ℕ) → modulus (j + k) / 2 ^ k ≡ modulus j
 unfolding modulus
 modulus-shifted j k = ap (λ (n : ℕ). n / 2 ^ k) (ones-split j k) ∙ high (2 ^ j - 1) k (ones-lt k)
 
--- folding: what is above bit e is added to what is below it
-pub folded-lt : (e p s : ℕ) → p ≡ modulus e → s < p * 2 ^ e → s / 2 ^ e + s % 2 ^ e < p + p
-folded-lt e p s h room =
-    let top : s / 2 ^ e < p = div-lt-iff-lt-mul (pow-pos e) .1 room in
-    omega (arith, mod-lt s (pow-pos e), modulus-suc e)
-
-pub folded : (e s : ℕ) → Cong (modulus e) (s / 2 ^ e + s % 2 ^ e) s
-folded e s = cong-trans (cong-sym (folds e (s / 2 ^ e) (s % 2 ^ e))) (cong-of-eq (div-add-mod' s (2 ^ e)))
-
--- the parts of a factor, cut above bit k, and the columns of a product, as the code has them
+-- the parts of a factor, cut above bit k, and the columns of two products, as the code has them
 abbrev upper : ℕ → ℕ → ℕ
 upper k a = a / 2 ^ (k + 1)
 
 abbrev lower : ℕ → ℕ → ℕ → ℕ
 lower k p a = bitAnd a (p / 2 ^ k)
 
-abbrev middle : ℕ → ℕ → ℕ → ℕ → ℕ
-middle k p a b = upper k a * lower k p b + lower k p a * upper k b
+abbrev pub middle : ℕ → ℕ → ℕ → ℕ → ℕ → ℕ → ℕ
+middle k p a b c d = upper k a * lower k p b + lower k p a * upper k b + (upper k c * lower k p d + lower k p c * upper k d)
 
-abbrev cut : ℕ → ℕ → ℕ → ℕ → ℕ
-cut k p a b = bitAnd (middle k p a b) (p / 2 ^ k / 2 ^ 1)
+abbrev cut : ℕ → ℕ → ℕ → ℕ
+cut k p m = bitAnd m (p / 2 ^ k / 2 ^ 1)
 
-abbrev pub summed : ℕ → ℕ → ℕ → ℕ → ℕ
-summed k p a b =
-    2 * (upper k a * upper k b) + middle k p a b / 2 ^ k + cut k p a b * (p / 2 ^ k + 1) + lower k p a * lower k p b
+abbrev pub summed : ℕ → ℕ → ℕ → ℕ → ℕ → ℕ → ℕ
+summed k p a b c d =
+    2 * (upper k a * upper k b + upper k c * upper k d) + middle k p a b c d / 2 ^ k + cut k p (middle k p a b c d) * (p / 2 ^ k + 1)
+    + (lower k p a * lower k p b + lower k p c * lower k p d)
 
 -- the columns over plain numbers
-column-cong : (k p a₁ a₀ b₁ b₀ m₁ m₀ w a b : ℕ)
+column-cong : (k p a₁ a₀ b₁ b₀ c₁ c₀ d₁ d₀ m₁ m₀ w a b c d : ℕ)
     → p ≡ modulus (2 * k + 1)
     → w ≡ 2 ^ (k + 1)
-    → a₁ * b₀ + a₀ * b₁ ≡ m₁ * 2 ^ k + m₀
+    → a₁ * b₀ + a₀ * b₁ + (c₁ * d₀ + c₀ * d₁) ≡ m₁ * 2 ^ k + m₀
     → a₁ * 2 ^ (k + 1) + a₀ ≡ a
     → b₁ * 2 ^ (k + 1) + b₀ ≡ b
-    → Cong p (2 * (a₁ * b₁) + m₁ + m₀ * w + a₀ * b₀) (a * b)
-column-cong k p a₁ a₀ b₁ b₀ m₁ m₀ w a b width digit split left right =
-    rw (width, digit, ← left, ← right) (product k a₁ a₀ b₁ b₀ m₁ m₀ split)
+    → c₁ * 2 ^ (k + 1) + c₀ ≡ c
+    → d₁ * 2 ^ (k + 1) + d₀ ≡ d
+    → Cong p (2 * (a₁ * b₁ + c₁ * d₁) + m₁ + m₀ * w + (a₀ * b₀ + c₀ * d₀)) (a * b + c * d)
+column-cong k p a₁ a₀ b₁ b₀ c₁ c₀ d₁ d₀ m₁ m₀ w a b c d width digit split ha hb hc hd =
+    rw (width, digit, ← ha, ← hb, ← hc, ← hd) (product k a₁ a₀ b₁ b₀ c₁ c₀ d₁ d₀ m₁ m₀ split)
 
--- the bounds of the columns, by 2^k
-pub record Summed (k p a b : ℕ) : Type 0 where
+-- the bounds of one product's parts, by 2^k
+pub record Parted (k p a b : ℕ) : Type 0 where
   pub cross : upper k a * lower k p b ≤ 2 * (2 ^ k * 2 ^ k)
   pub across : lower k p a * upper k b ≤ 2 * (2 ^ k * 2 ^ k)
   pub tops : upper k a * upper k b ≤ 2 ^ k * 2 ^ k
-  pub carry : middle k p a b / 2 ^ k ≤ 4 * 2 ^ k
-  pub digit : p / 2 ^ k + 1 ≡ 2 * 2 ^ k
-  pub rest : cut k p a b * (p / 2 ^ k + 1) ≤ 2 * (2 ^ k * 2 ^ k)
   pub bottoms : lower k p a * lower k p b ≤ 4 * (2 ^ k * 2 ^ k)
-  pub least : 2 ≤ 2 ^ k
+
+-- and of a middle column m
+pub record Carried (k p m : ℕ) : Type 0 where
+  pub carry : m / 2 ^ k ≤ 8 * 2 ^ k
+  pub digit : p / 2 ^ k + 1 ≡ 2 * 2 ^ k
+  pub rest : cut k p m * (p / 2 ^ k + 1) ≤ 2 * (2 ^ k * 2 ^ k)
+  pub least : 4 ≤ 2 ^ k
   pub narrow : 2 ^ k ≤ 2 ^ 30
   pub square : 2 ^ k * 2 ^ k ≤ 2 ^ 60
   pub whole : p + 1 ≡ 2 * (2 ^ k * 2 ^ k)
@@ -103,39 +100,39 @@ module _ (k p : ℕ) (width : p ≡ modulus (2 * k + 1)) where
       = omega (arith, width, modulus-suc (2 * k + 1), odd-power k, ap (λ (n : ℕ). 2 ^ k * n) (next-power k)) in
       le-of-lt (div-lt-iff-lt-mul (pow-pos (k + 1)) .1 fits)
 
-  cut-is : (a b : ℕ) → cut k p a b ≡ middle k p a b % 2 ^ k
-  cut-is a b = low-bits k (p / 2 ^ k / 2 ^ 1) (middle k p a b) mask-below
+  cut-is : (m : ℕ) → cut k p m ≡ m % 2 ^ k
+  cut-is m = low-bits k (p / 2 ^ k / 2 ^ 1) m mask-below
 
-  cut-le : (a b : ℕ) → cut k p a b ≤ 2 ^ k
-  cut-le a b = omega (arith, cut-is a b, mod-lt (middle k p a b) (pow-pos k))
+  cut-le : (m : ℕ) → cut k p m ≤ 2 ^ k
+  cut-le m = omega (arith, cut-is m, mod-lt m (pow-pos k))
 
-  -- the columns are the product
-  pub summed-cong : (a b : ℕ) → Cong p (summed k p a b) (a * b)
-  summed-cong a b =
-      let split : middle k p a b ≡ middle k p a b / 2 ^ k * 2 ^ k + cut k p a b
-      = omega (arith, cut-is a b, div-add-mod' (middle k p a b) (2 ^ k)) in
-      column-cong k p _ _ _ _ _ _ _ a b width base split (whole a) (whole b)
+  -- the columns are the products
+  pub summed-cong : (a b c d : ℕ) → Cong p (summed k p a b c d) (a * b + c * d)
+  summed-cong a b c d =
+      let m = middle k p a b c d in
+      let split : m ≡ m / 2 ^ k * 2 ^ k + cut k p m = omega (arith, cut-is m, div-add-mod' m (2 ^ k)) in
+      column-cong k p _ _ _ _ _ _ _ _ _ _ _ a b c d width base split (whole a) (whole b) (whole c) (whole d)
 
   -- and fit a word with room to fold
-  pub summed-fits : (a b : ℕ) → 1 ≤ k → k ≤ 30 → a < p → b < p → Summed k p a b
-  summed-fits a b low top ha hb =
+  pub parted : {a b : ℕ} → a < p → b < p → Parted k p a b
+  parted {a} {b} ha hb = record {
+    cross = omega (arith, mul-le-mul (upper-le a ha) (lower-le b));
+    across = omega (arith, mul-le-mul (lower-le a) (upper-le b hb));
+    tops = mul-le-mul (upper-le a ha) (upper-le b hb);
+    bottoms = omega (arith, mul-le-mul (lower-le a) (lower-le b));
+  }
+
+  pub carried : (m : ℕ) → 2 ≤ k → k ≤ 30 → m ≤ 8 * (2 ^ k * 2 ^ k) → Carried k p m
+  carried m low top bound =
       let L = 2 ^ k in
-      let two : 2 ^ 1 ≤ L = pow-mono low in
       let room : L ≤ 2 ^ 30 = pow-mono top in
-      let ceiling : L * L ≤ 2 ^ 30 * 2 ^ 30 = mul-le-mul room room in
       let digit : p / 2 ^ k + 1 ≡ 2 * L = omega (arith, base, next-power k) in
-      let m-le : middle k p a b ≤ 4 * (L * L)
-      = omega (arith, mul-le-mul (upper-le a ha) (lower-le b), mul-le-mul (lower-le a) (upper-le b hb)) in
       record {
-        cross = omega (arith, mul-le-mul (upper-le a ha) (lower-le b));
-        across = omega (arith, mul-le-mul (lower-le a) (upper-le b hb));
-        tops = mul-le-mul (upper-le a ha) (upper-le b hb);
         carry = div-le-of-le-mul L (omega arith);
         digit = digit;
-        rest = omega (arith, mul-le-mul (cut-le a b) (le-of-eq digit));
-        bottoms = omega (arith, mul-le-mul (lower-le a) (lower-le b));
+        rest = omega (arith, mul-le-mul (cut-le m) (le-of-eq digit));
+        least = pow-mono {i = 2} low;
         narrow = room;
-        square = ceiling;
+        square = mul-le-mul room room;
         whole = omega (arith, width, modulus-suc (2 * k + 1), odd-power k);
-        least = two;
       }

@@ -16,8 +16,10 @@ FourTimes = (e a : ℕ) → 2 ≤ e → a < modulus e → rotated e a ≡ 4 * a 
 abbrev pub Quarter : Type 0
 Quarter = (e : ℕ) → 2 ≤ e → 4 * quarter e % modulus e ≡ 1
 
--- the product in words of half the width, for every odd width: factors cut above bit k, the middle column at bit k
+-- two products in words of half the width, for every odd width: factors cut above bit k, the middle column at bit k
 abbrev pub Product : Type 0
-Product = (k a₁ a₀ b₁ b₀ m₁ m₀ : ℕ)
-    → a₁ * b₀ + a₀ * b₁ ≡ m₁ * 2 ^ k + m₀
-    → Cong (modulus (2 * k + 1)) (2 * (a₁ * b₁) + m₁ + m₀ * 2 ^ (k + 1) + a₀ * b₀) ((a₁ * 2 ^ (k + 1) + a₀) * (b₁ * 2 ^ (k + 1) + b₀))
+Product = (k a₁ a₀ b₁ b₀ c₁ c₀ d₁ d₀ m₁ m₀ : ℕ)
+    → a₁ * b₀ + a₀ * b₁ + (c₁ * d₀ + c₀ * d₁) ≡ m₁ * 2 ^ k + m₀
+    → Cong (modulus (2 * k + 1))
+    (2 * (a₁ * b₁ + c₁ * d₁) + m₁ + m₀ * 2 ^ (k + 1) + (a₀ * b₀ + c₀ * d₀))
+    ((a₁ * 2 ^ (k + 1) + a₀) * (b₁ * 2 ^ (k + 1) + b₀) + (c₁ * 2 ^ (k + 1) + c₀) * (d₁ * 2 ^ (k + 1) + d₀))

@@ -1,10 +1,11 @@
-// Sums, differences, products and four times, in a ring.
+// Sums, differences, products, remainders and four times, in a ring.
 ghost use mathlib.Core.Path.{_≡_};
 ghost use Prim.Native.Nat.{_+_, _*_, _%_, _<_};
 ghost use Rattle.ring.specs.Modular.{diff};
 ghost use Rattle.ring.specs.Rings.{modulusOf};
 use crate::modular::add_mod;
 use crate::modular::mul_mod;
+use crate::modular::reduce_word;
 use crate::modular::sub_mod;
 use crate::rings::Ring;
 
@@ -16,7 +17,7 @@ impl Ring {
         ensures is { λ r. ⌜ r ≡ (a + b) % modulusOf self ⌝ }
         ensures below { λ r. ⌜ r < modulusOf self ⌝ }
     {
-        add_mod(self.modulus(), a, b)
+        add_mod(self.width(), self.modulus(), a, b)
     }
 
     // a - b modulo p.
@@ -26,7 +27,7 @@ impl Ring {
         ensures is { λ r. ⌜ r ≡ diff (modulusOf self) a b ⌝ }
         ensures below { λ r. ⌜ r < modulusOf self ⌝ }
     {
-        sub_mod(self.modulus(), a, b)
+        sub_mod(self.width(), self.modulus(), a, b)
     }
 
     // a × b modulo p.
@@ -37,6 +38,14 @@ impl Ring {
         ensures below { λ r. ⌜ r < modulusOf self ⌝ }
     {
         mul_mod(self.width() / 2, self.modulus(), a, b)
+    }
+
+    // a modulo p, of any word.
+    pub fn reduce(self, a: u64) -> u64
+        ensures is { λ r. ⌜ r ≡ a % modulusOf self ⌝ }
+        ensures below { λ r. ⌜ r < modulusOf self ⌝ }
+    {
+        reduce_word(self.width(), self.modulus(), a)
     }
 
     // 4 a modulo p: the e bits of a, turned left by two.

@@ -6,6 +6,7 @@ mod rings;
 
 pub use bits::bit;
 pub use modular::add_mod;
+pub use modular::mul_add_mod;
 pub use modular::mul_mod;
 pub use modular::sub_mod;
 pub use rings::OfWidth;

@@ -1,75 +1,121 @@
-// Arithmetic modulo a number p: the numbers are below p, and so are the results.
+// Arithmetic modulo p = 2^e - 1: the numbers are below p, and so are the results. They may be secret, so nothing here branches:
+// shifts and masks stay what they are, while a compiler may make a jump of an `if` that picks one of two numbers.
 ghost use mathlib.Core.Path.{_≡_};
-ghost use Prim.Native.Nat.{_+_, _*_, _%_, _<_, _≤_, _^_};
-ghost use Rattle.ring.specs.Modular.{diff};
+ghost use Prim.Native.Nat.{_+_, _*_, _/_, _%_, _<_, _≤_, _^_};
+ghost use Rattle.ring.specs.Modular.{Cong, diff};
 ghost use Rattle.ring.specs.Rings.{modulus};
 
 // a + b modulo p.
-pub fn add_mod(p: u64, a: u64, b: u64) -> u64
-    requires room { ⌜ p ≤ 2 ^ 63 ⌝ }
+pub fn add_mod(e: u64, p: u64, a: u64, b: u64) -> u64
+    requires modulus { ⌜ p ≡ modulus e ⌝ }
+    requires width { ⌜ e < 64 ⌝ }
     requires left { ⌜ a < p ⌝ }
     requires right { ⌜ b < p ⌝ }
     ensures is { λ r. ⌜ r ≡ (a + b) % p ⌝ }
     ensures below { λ r. ⌜ r < p ⌝ }
 {
-    reduce_once(p, a + b)
+    reduce_once(e, p, a + b)
 }
 
 // a - b modulo p.
-pub fn sub_mod(p: u64, a: u64, b: u64) -> u64
+pub fn sub_mod(e: u64, p: u64, a: u64, b: u64) -> u64
+    requires modulus { ⌜ p ≡ modulus e ⌝ }
+    requires width { ⌜ e < 64 ⌝ }
     requires left { ⌜ a < p ⌝ }
     requires right { ⌜ b < p ⌝ }
     ensures is { λ r. ⌜ r ≡ diff p a b ⌝ }
     ensures below { λ r. ⌜ r < p ⌝ }
 {
-    if b <= a {
-        return a - b;
-    }
-    p - b + a
+    reduce_once(e, p, a + (p - b))
 }
 
-// a × b modulo p = 2^(2k+1) - 1 in 64-bit words: the factors are cut above bit k, the middle column at bit k.
+// a × b modulo p = 2^(2k+1) - 1.
 pub fn mul_mod(k: u64, p: u64, a: u64, b: u64) -> u64
     requires modulus { ⌜ p ≡ modulus (2 * k + 1) ⌝ }
-    requires width { ⌜ (1 ≤ k) × (k ≤ 30) ⌝ }
+    requires width { ⌜ (2 ≤ k) × (k ≤ 30) ⌝ }
     requires left { ⌜ a < p ⌝ }
     requires right { ⌜ b < p ⌝ }
     ensures is { λ r. ⌜ r ≡ (a * b) % p ⌝ }
     ensures below { λ r. ⌜ r < p ⌝ }
+{
+    reduce_short(2 * k + 1, p, columns(k, p, a, b, 0, 0))
+}
+
+// a × b + c × d + s modulo p = 2^(2k+1) - 1, reduced once for all three.
+pub fn mul_add_mod(k: u64, p: u64, a: u64, b: u64, c: u64, d: u64, s: u64) -> u64
+    requires modulus { ⌜ p ≡ modulus (2 * k + 1) ⌝ }
+    requires width { ⌜ (2 ≤ k) × (k ≤ 30) ⌝ }
+    requires left { ⌜ (a < p) × (b < p) ⌝ }
+    requires right { ⌜ (c < p) × (d < p) ⌝ }
+    requires sum { ⌜ s < p + p ⌝ }
+    ensures is { λ r. ⌜ r ≡ (a * b + c * d + s) % p ⌝ }
+    ensures below { λ r. ⌜ r < p ⌝ }
+{
+    let e = 2 * k + 1;
+    reduce_short(e, p, fold(e, p, columns(k, p, a, b, c, d)) + s)
+}
+
+// a × b + c × d in 64-bit words, not reduced: the factors are cut above bit k, the middle column at bit k.
+fn columns(k: u64, p: u64, a: u64, b: u64, c: u64, d: u64) -> u64
+    requires modulus { ⌜ p ≡ modulus (2 * k + 1) ⌝ }
+    requires width { ⌜ (2 ≤ k) × (k ≤ 30) ⌝ }
+    requires left { ⌜ (a < p) × (b < p) ⌝ }
+    requires right { ⌜ (c < p) × (d < p) ⌝ }
+    ensures is { λ r. ⌜ Cong p r (a * b + c * d) ⌝ }
+    ensures below { λ r. ⌜ r < p * 2 ^ (2 * k + 1) ⌝ }
 {
     let low = p >> k;
     let a1 = a >> (k + 1);
     let a0 = a & low;
     let b1 = b >> (k + 1);
     let b0 = b & low;
-    let m = a1 * b0 + a0 * b1;
+    let c1 = c >> (k + 1);
+    let c0 = c & low;
+    let d1 = d >> (k + 1);
+    let d0 = d & low;
+    let m = a1 * b0 + a0 * b1 + (c1 * d0 + c0 * d1);
     let m0 = m & (low >> 1);
-    fold(
-        2 * k + 1,
-        p,
-        2 * (a1 * b1) + (m >> k) + m0 * (low + 1) + a0 * b0,
-    )
+    2 * (a1 * b1 + c1 * d1) + (m >> k) + m0 * (low + 1) + (a0 * b0 + c0 * d0)
 }
 
-// s modulo 2^e - 1, of a word with few bits above bit e: those fold onto the low ones.
-fn fold(e: u64, p: u64, s: u64) -> u64
+// s modulo p, of any word: four folds bring it below 2p at each width from 13 up.
+pub fn reduce_word(e: u64, p: u64, s: u64) -> u64
     requires modulus { ⌜ p ≡ modulus e ⌝ }
-    requires shift { ⌜ e < 64 ⌝ }
+    requires width { ⌜ (13 ≤ e) × (e < 64) ⌝ }
+    ensures is { λ r. ⌜ r ≡ s % p ⌝ }
+    ensures below { λ r. ⌜ r < p ⌝ }
+{
+    let twice = fold(e, p, fold(e, p, s));
+    reduce_once(e, p, fold(e, p, fold(e, p, twice)))
+}
+
+// s modulo p, of a word with few bits above bit e: one fold brings it below 2p.
+pub fn reduce_short(e: u64, p: u64, s: u64) -> u64
+    requires modulus { ⌜ p ≡ modulus e ⌝ }
+    requires width { ⌜ e < 64 ⌝ }
     requires room { ⌜ s < p * 2 ^ e ⌝ }
     ensures is { λ r. ⌜ r ≡ s % p ⌝ }
     ensures below { λ r. ⌜ r < p ⌝ }
 {
-    reduce_once(p, (s >> e) + (s & p))
+    reduce_once(e, p, fold(e, p, s))
 }
 
-// s modulo p, of a sum of two numbers below p.
-fn reduce_once(p: u64, s: u64) -> u64
-    requires { ⌜ s < p + p ⌝ }
+// What is above bit e, added to what is below it: the same modulo p.
+fn fold(e: u64, p: u64, s: u64) -> u64
+    requires modulus { ⌜ p ≡ modulus e ⌝ }
+    requires width { ⌜ e < 64 ⌝ }
+    ensures { λ r. ⌜ r ≡ s / 2 ^ e + s % 2 ^ e ⌝ }
+{
+    (s >> e) + (s & p)
+}
+
+// s modulo p, of a sum of two numbers below p: with one more, s passes bit e just where p is to be taken away.
+fn reduce_once(e: u64, p: u64, s: u64) -> u64
+    requires modulus { ⌜ p ≡ modulus e ⌝ }
+    requires width { ⌜ e < 64 ⌝ }
+    requires sum { ⌜ s < p + p ⌝ }
     ensures is { λ r. ⌜ r ≡ s % p ⌝ }
     ensures below { λ r. ⌜ r < p ⌝ }
 {
-    if s < p {
-        return s;
-    }
-    s - p
+    (s + ((s + 1) >> e)) & p
 }

@@ -19,7 +19,7 @@ pub fn same_lengths(a: usize, b: usize, n: usize) -> bool
 // x × y modulo p = 2^(2k+1) - 1, or 0 where one is out of range.
 fn checked_product(k: u64, p: u64, x: u64, y: u64) -> u64
     requires modulus { ⌜ p ≡ modulus (2 * k + 1) ⌝ }
-    requires width { ⌜ (1 ≤ k) × (k ≤ 30) ⌝ }
+    requires width { ⌜ (2 ≤ k) × (k ≤ 30) ⌝ }
     ensures { λ z. ⌜ z ≡ product p x y ⌝ }
 {
     if x < p {

@@ -2,12 +2,9 @@
 use native.Mathlib.Omega.{arith}
 use borrow.Author.Needs.{needs}
 use Rattle.ring.proofs.RangeLaw.{quarter-lt}
-use Rattle.compose.proofs.ShareLaw.{quartered-is, reduced-lt}
+use Rattle.compose.proofs.ShareLaw.{quartered-is}
 use Rattle.compose.proofs.quotients.quartered.Statement.{statement}
 use Rattle.compose.proofs.quotients.quartered.Tie as tie
-
-reduces : tie.Need-sub-requires
-reduces c κs = (reduced-lt _ (c .before .modulus .ensures) (omega arith), c .mul .ensures .1)
 
 inverts : tie.Need-mul-requires-2
 inverts c κs = (rw (c .quarter .ensures) (quarter-lt (c .before .before .before .before .args .f)), c .before .sub .ensures .1)
@@ -15,7 +12,7 @@ inverts c κs = (rw (c .quarter .ensures) (quarter-lt (c .before .before .before
 returns : tie.Need-returns
 returns c =
     let rest = c .before .before in (
-      quartered-is _ _ _ _ _ (omega arith) (rest .before .before .modulus .ensures) (rest .before .mul .ensures .0) (rest .sub .ensures .0)
+      quartered-is _ _ _ _ _ (omega arith) (rest .before .before .reduce .ensures .0) (rest .before .mul .ensures .0) (rest .sub .ensures .0)
           (c .before .quarter .ensures) (c .mul2 .ensures .0),
       c .mul2 .ensures .1,
     )
@@ -24,5 +21,4 @@ pub quartered-spec : {M : Type 1} → statement M
 quartered-spec =
     tie.close
     (tie.spec
-    (λ c κs. search needs) (λ c. search needs) (λ c κs. search needs) reduces
-    (λ c κs. search needs) inverts returns)
+    (λ c κs. search needs) (λ c κs. search needs) (λ c κs. search needs) (λ c κs. search needs) inverts returns)

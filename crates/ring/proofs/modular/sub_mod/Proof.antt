@@ -1,30 +1,23 @@
--- With no borrow, or with the modulus added first: the one number below p that b adds to, to give a.
+-- a + (p - b) is below 2p, and what is subtracted is its own remainder.
 use borrow.Author.Needs.{needs}
-use Prim.Native.Nat.{ℕ, _+_, _*_, _-_, _<_, _≤_}
-use mathlib.Core.Path.{_≡_}
+use Prim.Native.Nat.{ℕ, _+_, _-_, _%_, _<_}
+use mathlib.Core.Path.{_≡_, _∙_, ap, sym}
+use native.Mathlib.Nat.{mod-eq-of-lt}
 use native.Mathlib.Omega.{arith}
 use Rattle.ring.specs.Modular.{diff}
-use Rattle.ring.proofs.CongLaw.{diff-only, cong-of-eq, cong-multiple, cong-trans}
+use Rattle.ring.proofs.FoldLaw.{modulus-room}
 use Rattle.ring.proofs.modular.sub_mod.Statement.{statement}
 use Rattle.ring.proofs.modular.sub_mod.Tie as tie
 
-plain : (p a b : ℕ) → a < p → b ≤ a → (a - b ≡ diff p a b) × (a - b < p)
-plain p a b ha h =
-    let below : a - b < p = omega arith in
-    let sum : a - b + b ≡ a = omega arith in
-    (diff-only b (omega arith) below (cong-of-eq sum), below)
-
-wrapped : (p a b : ℕ) → a < b → b < p → (p - b + a ≡ diff p a b) × (p - b + a < p)
-wrapped p a b h hb =
-    let below : p - b + a < p = omega arith in
-    let sum : p - b + a + b ≡ a + p * 1 = omega arith in
-    (diff-only b (omega arith) below (cong-trans (cong-of-eq sum) (cong-multiple p a 1)), below)
+difference : (p a b : ℕ) → b < p → (a + (p - b)) % p ≡ diff p a b
+unfolding diff
+difference p a b h = ap (λ (n : ℕ). (a + (p - n)) % p) (sym (mod-eq-of-lt h))
 
 pub sub-mod-spec : {M : Type 1} → statement M
 sub-mod-spec =
     tie.close
     (tie.spec
-    (λ c. plain _ _ _ (c .before .pre .0) (c .if1 .taken))
     (λ c. search needs)
-    (λ c. search needs)
-    (λ c. wrapped _ _ _ (c .if1 .left) (c .before .pre .1)))
+    (λ c. omega (arith, modulus-room (c .pre .0) (c .pre .1 .0)))
+    (λ c κs. search needs)
+    (λ c. (c .reduce-once .ensures .0 ∙ difference _ _ _ (c .before .pre .1 .1 .1), c .reduce-once .ensures .1)))

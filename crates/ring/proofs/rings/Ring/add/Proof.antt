@@ -1,6 +1,6 @@
 use borrow.Author.Needs.{needs}
 use native.Mathlib.Omega.{arith}
-use Rattle.ring.proofs.RangeLaw.{modulus-lt}
+use Rattle.ring.proofs.RangeLaw.{sized}
 use Rattle.ring.proofs.rings.Ring.add.Statement.{statement}
 use Rattle.ring.proofs.rings.Ring.add.Tie as tie
 
@@ -9,5 +9,6 @@ add-spec =
     tie.close
     (tie.spec
     (λ c κs. search needs)
-    (λ c κs. omega (arith, modulus-lt (c .before .args .self)))
+    (λ c κs. search needs)
+    (λ c κs. omega (arith, sized (c .before .before .args .self) (c .before .width .ensures) (c .modulus .ensures)))
     (λ c. rw (← (c .before .modulus .ensures)) (c .add-mod .ensures)))

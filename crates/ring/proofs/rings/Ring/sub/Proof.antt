@@ -1,4 +1,6 @@
 use borrow.Author.Needs.{needs}
+use native.Mathlib.Omega.{arith}
+use Rattle.ring.proofs.RangeLaw.{sized}
 use Rattle.ring.proofs.rings.Ring.sub.Statement.{statement}
 use Rattle.ring.proofs.rings.Ring.sub.Tie as tie
 
@@ -8,4 +10,5 @@ sub-spec =
     (tie.spec
     (λ c κs. search needs)
     (λ c κs. search needs)
+    (λ c κs. omega (arith, sized (c .before .before .args .self) (c .before .width .ensures) (c .modulus .ensures)))
     (λ c. rw (← (c .before .modulus .ensures)) (c .sub-mod .ensures)))
