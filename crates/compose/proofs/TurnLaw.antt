@@ -2,12 +2,13 @@
 use Prim.Native.Nat.{ℕ, _+_, _*_, _-_, _%_, _<_, _≤_, _^_}
 use mathlib.Core.List.{List}
 use mathlib.Core.Path.{_≡_, ap, refl, sym, _∙_}
-use native.Mathlib.Nat.{add-mod-mod, mod-add-mod, mod-eq-of-lt, mod-lt}
 use native.Mathlib.Omega.{arith}
 use lib.ListN.{length}
 use lib.Pow.{pow-add}
 use borrow.Rule.Slice.PartMut.{same-len-mid}
+use Rattle.ring.specs.Modular.{Cong}
 use Rattle.ring.specs.Rings.{bitOf}
+use Rattle.ring.proofs.CongLaw.{cong-add, cong-mod, cong-mul, cong-of-eq, cong-refl, cong-sym, cong-trans}
 use Rattle.gate.specs.Gates.{gated}
 use Rattle.gate.specs.Places.{InRange, Place, p0, p1, p2, parts, tabled, three}
 use Rattle.gate.specs.declared.sharing.Sharing.{Sharing}
@@ -106,42 +107,48 @@ bit-joined {m} {j} {w} room room′ items items′ joins joins′ =
     record { adds = λ weight sum z s holds total. bit-summed m j weight w holds room room′ items items′ joins joins′ total }
 
 -- the weight of the next bit
-doubled : (m k : ℕ) {weight next : ℕ} → weight ≡ 2 ^ k % m → next ≡ (weight + weight) % m → next ≡ 2 ^ (k + 1) % m
-doubled m k is sum =
-    let e : 2 ^ k + 2 ^ k ≡ 2 ^ (k + 1) = omega (arith, pow-add 2 k 1) in
-    rw (sum, is, mod-add-mod, add-mod-mod, e)
+doubled : {m : ℕ} (j k next : ℕ) → Cong m (2 ^ j) (2 ^ k) → Cong m (2 ^ next) (2 ^ (j + 1)) → Cong m (2 ^ next) (2 ^ (k + 1))
+doubled j k next weighs after-it =
+    let left : 2 ^ (j + 1) ≡ 2 ^ j * 2 = pow-add 2 j 1 in
+    let right : 2 ^ k * 2 ≡ 2 ^ (k + 1) = sym (pow-add 2 k 1) in
+    cong-trans after-it (cong-trans (cong-of-eq left) (cong-trans (cong-mul weighs (cong-refl 2)) (cong-of-eq right)))
+
+-- a power of two with the weight of bit k adds what the definition adds
+weighed : (m j k s b : ℕ) → Cong m (2 ^ j) (2 ^ k) → (s + 2 ^ j * b) % m ≡ (s + 2 ^ k % m * b) % m
+weighed m j k s b weighs =
+    cong-add (cong-refl s) (cong-mul (cong-trans weighs (cong-sym (cong-mod m (2 ^ k)))) (cong-refl b)) .same
 
 -- k bits of w are composed: from the runs t and c to the sum and the runs d
-pub record Reached (m from count : ℕ) (w : Sharing) (t₀ t₁ t₂ c₀ c₁ c₂ : List ℕ) (k weight : ℕ) (sum : Sharing) (d₀ d₁ d₂ : List ℕ) : Type 0 where
+pub record Reached (m from count : ℕ) (w : Sharing) (t₀ t₁ t₂ c₀ c₁ c₂ : List ℕ) (k j : ℕ) (sum : Sharing) (d₀ d₁ d₂ : List ℕ) : Type 0 where
   pub same : AsLong c₀ c₁ c₂ d₀ d₁ d₂
   pub most : k ≤ count
-  pub weighs : weight ≡ 2 ^ k % m
+  pub weighs : Cong m (2 ^ j) (2 ^ k)
   pub range : InRange m sum
   pub summed : Summed (composeGates wordBit m from k) (tabled (λ i. summingStart (parts w i))) (three t₀ t₁ t₂) (three c₀ c₁ c₂) (parts sum) (three d₀ d₁ d₂)
 
 pub at-start : (m from count : ℕ) {w none : Sharing} {t₀ t₁ t₂ c₀ c₁ c₂ : List ℕ}
-    → 1 < m → none ≡ zeros → Reached m from count w t₀ t₁ t₂ c₀ c₁ c₂ 0 1 none c₀ c₁ c₂
+    → 1 < m → none ≡ zeros → Reached m from count w t₀ t₁ t₂ c₀ c₁ c₂ 0 0 none c₀ c₁ c₂
 at-start m from count {w} {none} {t₀} {t₁} {t₂} {c₀} {c₁} {c₂} wide is =
     record {
       same = record { zero = refl; one = refl; two = refl };
       most = omega arith;
-      weighs = sym (mod-eq-of-lt wide);
+      weighs = cong-refl 1;
       range = rw is (record { zero = omega arith; one = omega arith; two = omega arith });
       summed = rw is (none-summed m from w (three t₀ t₁ t₂) (three c₀ c₁ c₂));
     }
 
-module _ {m from count : ℕ} {w : Sharing} {t₀ t₁ t₂ c₀ c₁ c₂ : List ℕ} {k weight : ℕ} {sum : Sharing} {d₀ d₁ d₂ : List ℕ}
-    (reached : Reached m from count w t₀ t₁ t₂ c₀ c₁ c₂ k weight sum d₀ d₁ d₂) where
+module _ {m from count : ℕ} {w : Sharing} {t₀ t₁ t₂ c₀ c₁ c₂ : List ℕ} {k j : ℕ} {sum : Sharing} {d₀ d₁ d₂ : List ℕ}
+    (reached : Reached m from count w t₀ t₁ t₂ c₀ c₁ c₂ k j sum d₀ d₁ d₂) where
   -- the next bit
   pub went-on : {next : ℕ} {b z : Sharing} {e₀ e₁ e₂ : List ℕ}
       → k < count
-      → next ≡ (weight + weight) % m
+      → Cong m (2 ^ next) (2 ^ (j + 1))
       → InRange m z
       → length e₀ ≡ length (partFrom (2 * k) d₀)
       → length e₁ ≡ length (partFrom (2 * k) d₁)
       → length e₂ ≡ length (partFrom (2 * k) d₂)
       → JoinsBit m (from + k) (parts w) (partsFrom (2 * k) t₀ t₁ t₂) (partsFrom (2 * k) d₀ d₁ d₂) (parts b) (three e₀ e₁ e₂)
-      → ((i : Place) → parts z i ≡ (parts sum i + weight * parts b i) % m)
+      → ((i : Place) → parts z i ≡ (parts sum i + 2 ^ j * parts b i) % m)
       → Reached m from count w t₀ t₁ t₂ c₀ c₁ c₂ (k + 1) next z
       (putPart (2 * k) d₀ e₀) (putPart (2 * k) d₁ e₁) (putPart (2 * k) d₂ e₂)
   went-on {next} {b} {z} {e₀} {e₁} {e₂} more twice range l₀ l₁ l₂ bit total =
@@ -152,9 +159,10 @@ module _ {m from count : ℕ} {w : Sharing} {t₀ t₁ t₂ c₀ c₁ c₂ : Lis
           two = same-len-mid (2 * k) (length d₂ - 2 * k) d₂ e₂ l₂ ∙ reached .same .two;
         };
         most = omega arith;
-        weighs = doubled m k (reached .weighs) twice;
+        weighs = doubled j k next (reached .weighs) twice;
         range = range;
-        summed = more-summed m from k weight (reached .weighs) (reached .summed) (λ s holds. bit .adds weight (parts sum) (parts z) s holds total);
+        summed = more-summed m from k (2 ^ k % m) refl (reached .summed) (λ s holds. bit .adds (2 ^ k % m) (parts sum) (parts z) s holds
+            (λ i. total i ∙ weighed m j k (parts sum i) (parts b i) (reached .weighs)));
       }
 
   -- after the last
@@ -163,21 +171,19 @@ module _ {m from count : ℕ} {w : Sharing} {t₀ t₁ t₂ c₀ c₁ c₂ : Lis
   all-summed done = let e : count ≡ k = omega (arith, reached .most) in rw e (reached .summed)
 
 -- what one turn needs of the runs
-pub record Turn (m from k weight : ℕ) (t₀ t₁ t₂ d₀ d₁ d₂ : List ℕ) : Type 0 where
+pub record Turn (m from k : ℕ) (t₀ t₁ t₂ d₀ d₁ d₂ : List ℕ) : Type 0 where
   pub place : from + k < 64
-  pub small : weight < m
   pub masks : Long (2 * k + 2) t₀ t₁ t₂
   pub items : ItemsBelow m (2 * k + 2) t₀ t₁ t₂
   pub room : Long (2 * k + 2) d₀ d₁ d₂
 
-pub turn-of : {m from count : ℕ} {w : Sharing} {t₀ t₁ t₂ c₀ c₁ c₂ : List ℕ} {k weight : ℕ} {sum : Sharing} {d₀ d₁ d₂ : List ℕ}
-    → Reached m from count w t₀ t₁ t₂ c₀ c₁ c₂ k weight sum d₀ d₁ d₂
+pub turn-of : {m from count : ℕ} {w : Sharing} {t₀ t₁ t₂ c₀ c₁ c₂ : List ℕ} {k j : ℕ} {sum : Sharing} {d₀ d₁ d₂ : List ℕ}
+    → Reached m from count w t₀ t₁ t₂ c₀ c₁ c₂ k j sum d₀ d₁ d₂
     → k < count → from + count ≤ 64 → Long (2 * count) t₀ t₁ t₂ → ItemsBelow m (2 * count) t₀ t₁ t₂ → Long (2 * count) c₀ c₁ c₂
-    → Turn m from k weight t₀ t₁ t₂ d₀ d₁ d₂
+    → Turn m from k t₀ t₁ t₂ d₀ d₁ d₂
 turn-of {m} {from} {count} {k = k} h more few masks items room =
     record {
       place = omega arith;
-      small = rw (h .weighs) (mod-lt (2 ^ k) (omega (arith, h .range)));
       masks = long-less (omega arith) masks;
       items = below-less (omega arith) items;
       room = long-less (omega arith) (long-same (h .same) room);

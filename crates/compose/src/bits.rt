@@ -1,7 +1,8 @@
 // Order 8: shared bits become a number of a ring, two gates a bit.
 ghost use mathlib.Core.Path.{_≡_};
-ghost use Prim.Native.Nat.{_+_, _*_, _%_, _<_, _≤_};
+ghost use Prim.Native.Nat.{_+_, _*_, _%_, _<_, _≤_, _^_};
 ghost use Rattle.gate.specs.Places.{InRange, Place, parts, tabled, three};
+ghost use Rattle.ring.specs.Modular.{Cong};
 ghost use Rattle.ring.specs.Rings.{bitOf, modulusOf, widthOf};
 ghost use Rattle.circuit.specs.Compose.{composeGates, joined, summingStart};
 ghost use Rattle.circuit.specs.Lent.{ItemsBelow, Left, Long};
@@ -126,18 +127,30 @@ fn join_bit(
     join_last(r, w, j, half, t1, &mut c0[1..], &mut c1[1..], &mut c2[1..])
 }
 
-// sum + weight × b.
-fn add_weighted(r: Ring, sum: Sharing, weight: u64, b: Sharing) -> Sharing
+// sum + 2^j × b.
+fn add_weighted(r: Ring, sum: Sharing, j: u64, b: Sharing) -> Sharing
     requires sum { ⌜ InRange (modulusOf r) sum ⌝ }
-    requires weight { ⌜ weight < modulusOf r ⌝ }
+    requires weight { ⌜ j < widthOf r ⌝ }
     requires bit { ⌜ InRange (modulusOf r) b ⌝ }
-    ensures is { λ z. ⌜ ((i : Place) → parts z i ≡ (parts sum i + weight * parts b i) % modulusOf r) ⌝ }
+    ensures is { λ z. ⌜ ((i : Place) → parts z i ≡ (parts sum i + 2 ^ j * parts b i) % modulusOf r) ⌝ }
     ensures below { λ z. ⌜ InRange (modulusOf r) z ⌝ }
 {
-    let s0 = r.add(sum.s0, r.mul(weight, b.s0));
-    let s1 = r.add(sum.s1, r.mul(weight, b.s1));
-    let s2 = r.add(sum.s2, r.mul(weight, b.s2));
+    let s0 = r.add(sum.s0, r.turn(j, b.s0));
+    let s1 = r.add(sum.s1, r.turn(j, b.s1));
+    let s2 = r.add(sum.s2, r.turn(j, b.s2));
     Sharing { s0, s1, s2 }
+}
+
+// The power of two after 2^j, modulo p: 2^e is 1.
+fn next_power(r: Ring, j: u64) -> u64
+    requires { ⌜ j < widthOf r ⌝ }
+    ensures is { λ n. ⌜ Cong (modulusOf r) (2 ^ n) (2 ^ (j + 1)) ⌝ }
+    ensures below { λ n. ⌜ n < widthOf r ⌝ }
+{
+    if j + 1 == r.width() {
+        return 0;
+    }
+    j + 1
 }
 
 // Bits from, from + 1, .. of w, count of them, with weights 1, 2, 4, .. modulo p.
@@ -161,7 +174,7 @@ pub fn compose_bits(
     ensures below { λ z. ⌜ InRange (modulusOf r) z ⌝ }
 {
     let mut sum = zeros();
-    let mut weight = 1;
+    let mut power = 0;
     for k in 0..count {
         let at = (2 * k) as usize;
         let b = join_bit(
@@ -175,8 +188,8 @@ pub fn compose_bits(
             &mut c1[at..],
             &mut c2[at..],
         );
-        sum = add_weighted(r, sum, weight, b);
-        weight = r.add(weight, weight);
+        sum = add_weighted(r, sum, power, b);
+        power = next_power(r, power);
     }
     sum
 }

@@ -33,8 +33,8 @@ fold-cong e s = cong-trans (cong-sym (folds e (s / 2 ^ e) (s % 2 ^ e))) (cong-of
 pub fold-same : (e : ℕ) {p : ℕ} (s : ℕ) → p ≡ modulus e → fold e s % p ≡ s % p
 fold-same e s h = rw h (fold-cong e s .same)
 
-pub folded-sum : (e p cols : ℕ) {f n : ℕ} (s : ℕ) → p ≡ modulus e → f ≡ fold e cols → Cong p cols n → (f + s) % p ≡ (n + s) % p
-folded-sum e p cols {f} {n} s h is products =
+pub folded-sum : (e p cols n s : ℕ) {f : ℕ} → p ≡ modulus e → f ≡ fold e cols → Cong p cols n → (f + s) % p ≡ (n + s) % p
+folded-sum e p cols n s {f} h is products =
     let kept : Cong p f n = record { same = ap (λ (i : ℕ). i % p) is ∙ fold-same e cols h ∙ products .same } in
     cong-add kept (cong-refl s) .same
 

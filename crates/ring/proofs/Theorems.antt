@@ -2,17 +2,24 @@
 use Prim.Native.Nat.{ℕ, _+_, _*_, _-_, _/_, _%_, _<_, _≤_, _^_}
 use mathlib.Core.Path.{_≡_, sym, _∙_, ap}
 use mathlib.Core.Logic.{⊎-elim}
-use native.Mathlib.Nat.{div-add-mod', mod-lt, div-lt-iff-lt-mul, mod-eq-of-lt, eq-or-lt-of-le}
+use native.Mathlib.Nat.{div-add-mod', mod-lt, div-lt-iff-lt-mul, mod-eq-of-lt, eq-or-lt-of-le, le-refl, mul-le-mul}
 use native.Mathlib.Omega.{arith}
 use lib.Pow.{pow-add, pow-pos, pow-mono}
-use Rattle.ring.specs.Rings.{modulus, quarter, rotated}
-use Rattle.ring.specs.Theorems.{Folds, FourTimes, Quarter, Product}
+use Rattle.ring.specs.Modular.{Cong}
+use Rattle.ring.specs.Rings.{modulus, quarter, turned}
+use Rattle.ring.specs.Theorems.{Folds, FourTimes, Product, Quarter, Turns}
 use Rattle.ring.proofs.CongLaw.{cong-of-eq, cong-trans, cong-sym, cong-multiple, cong-below}
 
 -- 2^e is one more than the modulus
 pub modulus-suc : (e : ℕ) → modulus e + 1 ≡ 2 ^ e
 unfolding modulus
 modulus-suc e = omega (arith, pow-pos e)
+
+-- so it is 1
+pub whole-turn : (e : ℕ) → Cong (modulus e) 1 (2 ^ e)
+whole-turn e =
+    let one-more : 1 + modulus e * 1 ≡ 2 ^ e = omega (arith, modulus-suc e) in
+    cong-trans (cong-sym (cong-multiple (modulus e) 1 1)) (cong-of-eq one-more)
 
 -- 2^e is four times 2^(e-2)
 pub four-quarters : (e : ℕ) → 2 ≤ e → 4 * 2 ^ (e - 2) ≡ 2 ^ e
@@ -27,26 +34,36 @@ folds e high low =
     let e′ : high * 2 ^ e + low ≡ high + low + modulus e * high = omega arith in
     cong-trans (cong-of-eq e′) (cong-multiple (modulus e) (high + low) high)
 
--- a turned word is below the modulus unless all its bits are ones: Q is 2^(e-2), high the two highest bits
-turn-below : (Q high low : ℕ) → low < Q → high < 4 → high * Q + low + 1 < 4 * Q → low * 4 + high + 1 < 4 * Q
-turn-below Q high low small top below =
-    let top′ : high ≤ 3 = omega arith in
-    ⊎-elim (λ (e : high ≡ 3). omega (arith, ap (λ (n : ℕ). n * Q) e)) (λ (l : high < 3). omega arith) (eq-or-lt-of-le top′)
+-- a turned word is below the modulus unless all its bits are ones: Q is 2^(e-k), K is 2^k
+turn-below : (Q K high low : ℕ) → low < Q → high < K → high * Q + low + 1 < Q * K → low * K + high + 1 < Q * K
+turn-below Q K high low small top below =
+    ⊎-elim
+    (λ (last : low + 1 ≡ Q). ⊎-elim
+    (λ (e : high + 1 ≡ K). let full : (high + 1) * Q ≡ K * Q = ap (λ (n : ℕ). n * Q) e in omega arith)
+    (λ (l : high + 1 < K). let e : (low + 1) * K ≡ Q * K = ap (λ (n : ℕ). n * K) last in omega arith)
+    (eq-or-lt-of-le {n = high + 1} {m = K} (omega arith)))
+    (λ (l : low + 1 < Q). omega (arith, mul-le-mul l (le-refl K)))
+    (eq-or-lt-of-le {n = low + 1} {m = Q} (omega arith))
+
+pub turns : Turns
+unfolding turned
+turns e k a h below =
+    let Q = 2 ^ (e - k) in
+    let K = 2 ^ k in
+    let split : (e - k) + k ≡ e = omega arith in
+    let powers : 2 ^ e ≡ Q * K = ap (λ (n : ℕ). 2 ^ n) (sym split) ∙ pow-add 2 (e - k) k in
+    let whole : a / Q * Q + a % Q ≡ a = div-add-mod' a Q in
+    let top : modulus e + 1 ≡ 2 ^ e = modulus-suc e in
+    let small : a % Q < Q = mod-lt a (pow-pos (e - k)) in
+    let high : a / Q < K = div-lt-iff-lt-mul (pow-pos (e - k)) .1 (omega arith) in
+    let fits : a % Q * K + a / Q < modulus e = omega (arith, turn-below Q K (a / Q) (a % Q) small high (omega arith)) in
+    let moved : a / Q * 2 ^ e + a % Q * K ≡ K * a = omega (arith, ap (λ (n : ℕ). a / Q * n) powers, ap (λ (n : ℕ). n * K) whole) in
+    let order : a % Q * K + a / Q ≡ a / Q + a % Q * K = omega arith in
+    cong-below fits
+    (cong-trans (cong-of-eq order) (cong-trans (cong-sym (folds e (a / Q) (a % Q * K))) (cong-of-eq moved)))
 
 pub four-times : FourTimes
-unfolding rotated
-four-times e a h below =
-    let Q = 2 ^ (e - 2) in
-    let whole : a / Q * Q + a % Q ≡ a = div-add-mod' a Q in
-    let fours : 4 * Q ≡ 2 ^ e = four-quarters e h in
-    let top : modulus e + 1 ≡ 2 ^ e = modulus-suc e in
-    let small : a % Q < Q = mod-lt a (pow-pos (e - 2)) in
-    let high : a / Q < 4 = div-lt-iff-lt-mul (pow-pos (e - 2)) .1 (omega arith) in
-    let fits : a % Q * 4 + a / Q < modulus e = omega (arith, turn-below Q (a / Q) (a % Q) small high (omega arith)) in
-    let moved : a / Q * 2 ^ e + a % Q * 4 ≡ 4 * a = omega (arith, ap (λ (n : ℕ). a / Q * n) fours) in
-    let turned : a % Q * 4 + a / Q ≡ a / Q + a % Q * 4 = omega arith in
-    cong-below fits
-    (cong-trans (cong-of-eq turned) (cong-trans (cong-sym (folds e (a / Q) (a % Q * 4))) (cong-of-eq moved)))
+four-times e a = turns e 2 a
 
 pub quarter-inverts : Quarter
 unfolding quarter

@@ -7,7 +7,7 @@ use lib.Bits.{bitAnd, and-mask}
 use lib.Dec.{lit<}
 use lib.Pow.{pow-pos, pow-mono, ones-split, high, ones-lt, shl-exact}
 use Rattle.ring.specs.Modular.{Cong}
-use Rattle.ring.specs.Rings.{modulus}
+use Rattle.ring.specs.Rings.{modulus, turned}
 use Rattle.ring.proofs.CongLaw.{cong-of-eq, cong-trans, cong-sym}
 use Rattle.ring.proofs.Theorems.{folds, modulus-suc, next-power, odd-power, product}
 
@@ -24,6 +24,18 @@ low-bits e p s h = ap (λ (n : ℕ). bitAnd s n) h ∙ and-mask s e
 modulus-shifted : (j k : ℕ) → modulus (j + k) / 2 ^ k ≡ modulus j
 unfolding modulus
 modulus-shifted j k = ap (λ (n : ℕ). n / 2 ^ k) (ones-split j k) ∙ high (2 ^ j - 1) k (ones-lt k)
+
+-- a turn, as the code has it
+pub turn-word : (e p k a : ℕ) → p ≡ modulus e → e < 64 → k ≤ e
+    → (bitAnd a (p / 2 ^ k) * 2 ^ k) % 2 ^ 64 + a / 2 ^ (e - k) ≡ turned e k a
+unfolding turned
+turn-word e p k a h narrow places =
+    let whole : e ≡ (e - k) + k = omega arith in
+    let mask : p / 2 ^ k ≡ modulus (e - k) = ap (λ (n : ℕ). n / 2 ^ k) (h ∙ ap modulus whole) ∙ modulus-shifted (e - k) k in
+    let low : bitAnd a (p / 2 ^ k) ≡ a % 2 ^ (e - k) = low-bits (e - k) (p / 2 ^ k) a mask in
+    let moved : (a % 2 ^ (e - k) * 2 ^ k) % 2 ^ 64 ≡ a % 2 ^ (e - k) * 2 ^ k
+    = shl-exact (e - k) k 64 (mod-lt a (pow-pos (e - k))) (omega arith) in
+    ap (λ (n : ℕ). (n * 2 ^ k) % 2 ^ 64 + a / 2 ^ (e - k)) low ∙ ap (λ (n : ℕ). n + a / 2 ^ (e - k)) moved
 
 -- the parts of a factor, cut above bit k, and the columns of two products, as the code has them
 abbrev upper : ℕ → ℕ → ℕ

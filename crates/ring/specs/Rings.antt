@@ -15,9 +15,9 @@ modulus e = 2 ^ e - 1
 unfoldable pub quarter : ℕ → ℕ
 quarter e = 2 ^ (e - 2)
 
--- "a turn of its e bits left by two" (order 5): the low e - 2 bits move up, the two highest come in below
-unfoldable pub rotated : ℕ → ℕ → ℕ
-rotated e a = a % 2 ^ (e - 2) * 4 + a / 2 ^ (e - 2)
+-- "a turn of its e bits left" (order 5, by two) by k: the low e - k bits move up, the k highest come in below
+unfoldable pub turned : ℕ → ℕ → ℕ → ℕ
+turned e k a = a % 2 ^ (e - k) * 2 ^ k + a / 2 ^ (e - k)
 
 -- "Bit j of a sub-share word is the one of weight 2^j"
 unfoldable pub bitOf : ℕ → ℕ → ℕ

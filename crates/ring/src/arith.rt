@@ -1,12 +1,13 @@
 // Sums, differences, products, remainders and four times, in a ring.
 ghost use mathlib.Core.Path.{_≡_};
-ghost use Prim.Native.Nat.{_+_, _*_, _%_, _<_};
+ghost use Prim.Native.Nat.{_+_, _*_, _%_, _<_, _≤_, _^_};
 ghost use Rattle.ring.specs.Modular.{diff};
-ghost use Rattle.ring.specs.Rings.{modulusOf};
+ghost use Rattle.ring.specs.Rings.{modulusOf, widthOf};
 use crate::modular::add_mod;
 use crate::modular::mul_mod;
 use crate::modular::reduce_word;
 use crate::modular::sub_mod;
+use crate::modular::turn_mod;
 use crate::rings::Ring;
 
 impl Ring {
@@ -48,14 +49,22 @@ impl Ring {
         reduce_word(self.width(), self.modulus(), a)
     }
 
+    // 2^k × a modulo p.
+    pub fn turn(self, k: u64, a: u64) -> u64
+        requires places { ⌜ k ≤ widthOf self ⌝ }
+        requires number { ⌜ a < modulusOf self ⌝ }
+        ensures is { λ r. ⌜ r ≡ 2 ^ k * a % modulusOf self ⌝ }
+        ensures below { λ r. ⌜ r < modulusOf self ⌝ }
+    {
+        turn_mod(self.width(), self.modulus(), k, a)
+    }
+
     // 4 a modulo p: the e bits of a, turned left by two.
     pub fn four_times(self, a: u64) -> u64
         requires { ⌜ a < modulusOf self ⌝ }
         ensures is { λ r. ⌜ r ≡ 4 * a % modulusOf self ⌝ }
         ensures below { λ r. ⌜ r < modulusOf self ⌝ }
     {
-        let e = self.width();
-        let q = self.quarter();
-        (a & (q - 1)) * 4 + (a >> (e - 2))
+        self.turn(2, a)
     }
 }

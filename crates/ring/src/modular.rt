@@ -78,6 +78,18 @@ fn columns(k: u64, p: u64, a: u64, b: u64, c: u64, d: u64) -> u64
     2 * (a1 * b1 + c1 * d1) + (m >> k) + m0 * (low + 1) + (a0 * b0 + c0 * d0)
 }
 
+// 2^k × a modulo p: the e bits of a, turned left by k.
+pub fn turn_mod(e: u64, p: u64, k: u64, a: u64) -> u64
+    requires modulus { ⌜ p ≡ modulus e ⌝ }
+    requires width { ⌜ e < 64 ⌝ }
+    requires places { ⌜ k ≤ e ⌝ }
+    requires number { ⌜ a < p ⌝ }
+    ensures is { λ r. ⌜ r ≡ 2 ^ k * a % p ⌝ }
+    ensures below { λ r. ⌜ r < p ⌝ }
+{
+    ((a & (p >> k)) << k) + (a >> (e - k))
+}
+
 // s modulo p, of any word: four folds bring it below 2p at each width from 13 up.
 pub fn reduce_word(e: u64, p: u64, s: u64) -> u64
     requires modulus { ⌜ p ≡ modulus e ⌝ }

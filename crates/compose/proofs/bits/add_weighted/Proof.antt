@@ -8,7 +8,7 @@ returns : tie.Need-returns
 returns c =
     let first = c .before .before .before .before in
     let second = c .before .before in (
-      weighted _ _ _ _ (first .before .mul .ensures .0) (first .add .ensures .0) (second .before .mul2 .ensures .0) (second .add2 .ensures .0) (c .before .mul3 .ensures .0) (c .add3 .ensures .0),
+      weighted _ _ _ _ (first .before .turn .ensures .0) (first .add .ensures .0) (second .before .turn2 .ensures .0) (second .add2 .ensures .0) (c .before .turn3 .ensures .0) (c .add3 .ensures .0),
       record { zero = first .add .ensures .1; one = second .add2 .ensures .1; two = c .add3 .ensures .1 },
     )
 

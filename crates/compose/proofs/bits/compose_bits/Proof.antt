@@ -1,33 +1,34 @@
 -- Invariant: k bits are composed.
-use Prim.Native.Nat.{_*_, _-_}
+use Prim.Native.Nat.{_*_, _-_, _<_}
 use native.Mathlib.Omega.{arith}
 use borrow.Author.Needs.{needs}
-use Rattle.ring.specs.Rings.{modulusOf}
-use Rattle.ring.proofs.RangeLaw.{modulus-gt}
+use Rattle.ring.specs.Rings.{modulusOf, widthOf}
+use Rattle.ring.proofs.RangeLaw.{modulus-gt, width-ge}
 use Rattle.circuit.proofs.LentLaw.{below-on, long-on}
 use Rattle.compose.proofs.TurnLaw.{Reached, Turn, all-summed, at-start, turn-of, went-on}
 use Rattle.compose.proofs.bits.compose_bits.Statement.{statement}
 use Rattle.compose.proofs.bits.compose_bits.Tie as tie
 
 abbrev Inv-loop : tie.InvT-loop
-Inv-loop r w from count m0 m1 m2 c0₀ c1₀ c2₀ sum₀ weight₀ k₀ c0 c1 c2 sum weight k = Reached (modulusOf r) from count w m0 m1 m2 c0₀ c1₀ c2₀ k weight sum c0 c1 c2
+Inv-loop r w from count m0 m1 m2 c0₀ c1₀ c2₀ sum₀ power₀ k₀ c0 c1 c2 sum power k =
+    Reached (modulusOf r) from count w m0 m1 m2 c0₀ c1₀ c2₀ k power sum c0 c1 c2 × (power < widthOf r)
 
 abbrev μ-loop : tie.MeasureT-loop
-μ-loop r w from count m0 m1 m2 c0₀ c1₀ c2₀ sum₀ weight₀ k₀ c0 c1 c2 sum weight k = count - k
+μ-loop r w from count m0 m1 m2 c0₀ c1₀ c2₀ sum₀ power₀ k₀ c0 c1 c2 sum power k = count - k
 
 holds : tie.Need-loop-holds Inv-loop μ-loop
 holds c =
     let args = c .before .before .before .before .before .before .before .args in
-    at-start (modulusOf (args .r)) (args .from) (args .count) (omega (arith, modulus-gt (args .r))) (c .zeros .ensures)
+    (at-start (modulusOf (args .r)) (args .from) (args .count) (omega (arith, modulus-gt (args .r))) (c .zeros .ensures), omega (arith, width-ge (args .r)))
 
 abbrev start : tie.In-loop Inv-loop μ-loop → tie.Start Inv-loop μ-loop
 start c = c .before .before .before .before .before .before .before .before .before
 
-turn : (c : tie.In-loop Inv-loop μ-loop) → Turn (modulusOf (start c .args .r)) (start c .args .from) (c .before .loop .k) (c .before .loop .weight)
+turn : (c : tie.In-loop Inv-loop μ-loop) → Turn (modulusOf (start c .args .r)) (start c .args .from) (c .before .loop .k)
     (start c .args .m0 .now) (start c .args .m1 .now) (start c .args .m2 .now) (c .before .loop .c0) (c .before .loop .c1) (c .before .loop .c2)
 turn c =
     let pre = start c .pre in
-    turn-of (c .before .loop .inv) (c .loop-test .taken) (pre .0) (pre .1 .0) (pre .1 .1 .0) (pre .1 .1 .1)
+    turn-of (c .before .loop .inv .0) (c .loop-test .taken) (pre .0) (pre .1 .0) (pre .1 .1 .0) (pre .1 .1 .1)
 
 bit-fits : tie.Need-join-bit-requires Inv-loop μ-loop
 bit-fits c κs =
@@ -39,23 +40,22 @@ bit-fits c κs =
 sum-fits : tie.Need-add-weighted-requires Inv-loop μ-loop
 sum-fits c κs =
     let called = c .before .before .before .before .before .before in
-    let inside = called .before .before .before .before .before .before .before in
-    (inside .before .loop .inv .range, (turn inside .small, called .join-bit .ensures .1))
-
-weight-fits : tie.Need-add-requires Inv-loop μ-loop
-weight-fits c κs = let facts = turn (c .before .before .before .before .before .before .before .before .before .before .before .before .before .before) in (facts .small, facts .small)
+    let inv = called .before .before .before .before .before .before .before .before .loop .inv in
+    (inv .0 .range, (inv .1, called .join-bit .ensures .1))
 
 again : tie.Need-loop-again Inv-loop μ-loop
 again c =
     let added = c .before in
     let called = added .before .before .before .before .before .before .before in
     let inside = called .before .before .before .before .before .before .before in
-    let kept = called .join-bit .kept .1 .1 .1 .1 .1 .1 in
-    went-on (inside .before .loop .inv) (inside .loop-test .taken) (c .add .ensures .0) (added .add-weighted .ensures .1)
-    (kept .0) (kept .1 .0) (kept .1 .1 .0) (called .join-bit .ensures .0) (added .add-weighted .ensures .0)
+    let kept = called .join-bit .kept .1 .1 .1 .1 .1 .1 in (
+      went-on (inside .before .loop .inv .0) (inside .loop-test .taken) (c .next-power .ensures .0) (added .add-weighted .ensures .1)
+          (kept .0) (kept .1 .0) (kept .1 .1 .0) (called .join-bit .ensures .0) (added .add-weighted .ensures .0),
+      c .next-power .ensures .1,
+    )
 
 returns : tie.Need-returns Inv-loop μ-loop
-returns c = (all-summed (c .before .loop .inv) (c .loop-test .left), c .before .loop .inv .range)
+returns c = (all-summed (c .before .loop .inv .0) (c .loop-test .left), c .before .loop .inv .0 .range)
 
 pub compose-bits-spec : {M : Type 1} → statement M
 compose-bits-spec =
@@ -68,7 +68,7 @@ compose-bits-spec =
     (λ c. omega (arith, turn (c .before .before .before))) (λ c. omega (arith, turn (c .before .before .before))) (λ c. omega (arith, turn (c .before .before .before))) (λ c. search needs)
     (λ c. omega (arith, turn (c .before .before .before .before))) (λ c. omega (arith, turn (c .before .before .before .before))) (λ c. omega (arith, turn (c .before .before .before .before))) (λ c. search needs)
     (λ c. omega (arith, turn (c .before .before .before .before .before))) (λ c. omega (arith, turn (c .before .before .before .before .before))) (λ c. omega (arith, turn (c .before .before .before .before .before))) (λ c. search needs)
-    bit-fits sum-fits weight-fits
+    bit-fits sum-fits (λ c κs. search needs)
     (λ c. omega (arith, turn (c .before .before .before .before .before .before .before .before .before .before .before .before .before .before .before)))
     (λ c. omega (arith, c .before .before .before .before .before .before .before .before .before .before .before .before .before .before .before .loop-test .taken))
     again (λ c. search needs) (λ c. search needs) (λ c. search needs) returns)

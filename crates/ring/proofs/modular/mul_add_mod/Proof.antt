@@ -28,9 +28,10 @@ room c =
 returns : tie.Need-returns
 returns c =
     let start = c .before .before .before in
+    let a = start .args in
     let products = c .before .before .columns in (
       c .reduce-short .ensures .0
-          ∙ folded-sum _ _ (products .result) (start .args .s) (start .pre .0) (c .before .fold .ensures) (products .ensures .0),
+          ∙ folded-sum _ _ (products .result) (a .a * a .b + a .c * a .d) (a .s) (start .pre .0) (c .before .fold .ensures) (products .ensures .0),
       c .reduce-short .ensures .1,
     )
 
