@@ -1,13 +1,13 @@
 -- What the code works out at one place is the definition's share.
-use Prim.Native.Nat.{ℕ, _+_, _*_, _%_, _<_}
+use Prim.Native.Nat.{ℕ, _+_, _*_, _-_, _%_, _<_}
 use mathlib.Core.Path.{_≡_, _∙_}
-use native.Mathlib.Nat.{add-mod-mod}
+use native.Mathlib.Nat.{add-mod-mod, mod-lt}
 use native.Mathlib.Omega.{arith}
 use lib.Bits.{bitXor}
 use Rattle.ring.specs.Modular.{diff}
 use Rattle.ring.specs.Rings.{bitOf}
 use Rattle.ring.proofs.BitLaw.{xor-bit}
-use Rattle.ring.proofs.CongLaw.{cong-mod, cong-mul, cong-of-eq, cong-refl, cong-trans, diff-cong}
+use Rattle.ring.proofs.CongLaw.{cong-add, cong-mod, cong-mul, cong-multiple, cong-of-eq, cong-refl, cong-trans, diff-cong, diff-only}
 use Rattle.gate.specs.Places.{Place, parts, three}
 use Rattle.gate.specs.declared.sharing.Sharing.{Sharing}
 use Rattle.gate.proofs.PlaceLaw.{each}
@@ -15,12 +15,13 @@ use Rattle.circuit.specs.Compose.{joined}
 use Rattle.compose.specs.Quotients.{quotientWith}
 
 -- u + v - 2uv
-pub join-is : (m u v uv : ℕ) {a b h : ℕ} → 0 < m
-    → a ≡ (u + v) % m → b ≡ (uv + uv) % m → h ≡ diff m a b → h ≡ joined m u v uv
-join-is m u v uv pos sum double is =
-    let twice : uv + uv ≡ 2 * uv = omega arith in
-    is ∙ diff-cong pos (cong-trans (cong-of-eq sum) (cong-mod m (u + v)))
-    (cong-trans (cong-of-eq double) (cong-trans (cong-mod m (uv + uv)) (cong-of-eq twice)))
+pub join-is : (n u v uv : ℕ) {m : ℕ} → m ≡ n → uv < n → (u + v + 2 * (m - uv)) % n ≡ joined n u v uv
+join-is n u v uv {m} known small =
+    let pos : 0 < n = omega arith in
+    let back : u + v + 2 * (n - uv) + 2 * uv ≡ u + v + n * 2 = omega arith in
+    rw known
+    (diff-only (2 * uv) pos (mod-lt (u + v + 2 * (n - uv)) pos)
+    (cong-trans (cong-add (cong-mod n (u + v + 2 * (n - uv))) (cong-refl (2 * uv))) (cong-trans (cong-of-eq back) (cong-multiple n (u + v) 2))))
 
 -- 4^(-1) × (x - p q)
 pub quartered-is : (n k p x q : ℕ) {y j pq rest r : ℕ} → 0 < n

@@ -25,7 +25,7 @@ fn join_share(r: Ring, u: u64, v: u64, uv: u64) -> u64
     ensures is { λ h. ⌜ h ≡ joined (modulusOf r) u v uv ⌝ }
     ensures below { λ h. ⌜ h < modulusOf r ⌝ }
 {
-    r.sub(r.add(u, v), r.add(uv, uv))
+    r.reduce_sum(u + v + 2 * (r.modulus() - uv))
 }
 
 // u + v - 2uv at each place, z being the words of the gate.

@@ -1,7 +1,7 @@
 // The gate: each party's word goes to the head of its channel, and the words are the new sub-shares.
 ghost use mathlib.Core.Path.{_≡_};
-ghost use Prim.Native.Nat.{_<_};
-ghost use Rattle.ring.specs.Rings.{modulusOf};
+ghost use Prim.Native.Nat.{_+_, _*_, _<_, _≤_};
+ghost use Rattle.ring.specs.Rings.{modulus, modulusOf};
 ghost use Rattle.gate.specs.Gates.{gated};
 ghost use Rattle.gate.specs.Places.{InRange, Room, Sent, parts, sharing, three};
 use crate::sharing::Sharing;
@@ -21,9 +21,10 @@ pub fn send(z: Sharing, c0: &mut [u64], c1: &mut [u64], c2: &mut [u64])
     c2[0] = z.s2;
 }
 
-// One gate in a ring.
+// One gate modulo p = 2^(2k+1) - 1, from numbers so that a loop over gates finds them once.
 pub fn ring_gate(
-    r: Ring,
+    k: u64,
+    p: u64,
     x: Sharing,
     y: Sharing,
     t: Sharing,
@@ -31,15 +32,17 @@ pub fn ring_gate(
     c1: &mut [u64],
     c2: &mut [u64],
 ) -> Sharing
-    requires left { ⌜ InRange (modulusOf r) x ⌝ }
-    requires right { ⌜ InRange (modulusOf r) y ⌝ }
-    requires items { ⌜ InRange (modulusOf r) t ⌝ }
+    requires modulus { ⌜ p ≡ modulus (2 * k + 1) ⌝ }
+    requires width { ⌜ (2 ≤ k) × (k ≤ 30) ⌝ }
+    requires left { ⌜ InRange p x ⌝ }
+    requires right { ⌜ InRange p y ⌝ }
+    requires items { ⌜ InRange p t ⌝ }
     requires room { ⌜ Room (now c0) (now c1) (now c2) ⌝ }
-    ensures is { λ z. ⌜ z ≡ sharing (gated (modulusOf r) (parts x) (parts y) (parts t)) ⌝ }
-    ensures below { λ z. ⌜ InRange (modulusOf r) z ⌝ }
+    ensures is { λ z. ⌜ z ≡ sharing (gated p (parts x) (parts y) (parts t)) ⌝ }
+    ensures below { λ z. ⌜ InRange p z ⌝ }
     ensures sent { λ z. ⌜ Sent z (now (c0 .entry)) (now (c1 .entry)) (now (c2 .entry)) (now (c0 .exit)) (now (c1 .exit)) (now (c2 .exit)) ⌝ }
 {
-    let z = ring_words(r, x, y, t);
+    let z = ring_words(k, p, x, y, t);
     send(z, c0, c1, c2);
     z
 }

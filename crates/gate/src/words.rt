@@ -1,13 +1,24 @@
 // The words of a gate, each from what its party holds and nothing else.
 ghost use mathlib.Core.Path.{_≡_};
-ghost use Prim.Native.Nat.{_+_, _*_, _<_, _≤_};
+ghost use Prim.Native.Nat.{_+_, _*_, _%_, _<_, _≤_, _^_};
+ghost use Rattle.ring.specs.Modular.{Cong};
 ghost use Rattle.ring.specs.Rings.{modulus, modulusOf};
-ghost use Rattle.gate.specs.Gates.{gated, word};
+ghost use Rattle.gate.specs.Gates.{gated, mask, word};
 ghost use Rattle.gate.specs.Places.{InRange, PairBelow, pair, parts, sharing, three};
 use crate::sharing::Sharing;
 use ring::Ring;
 use ring::add_mod;
 use ring::mul_add_mod;
+
+// t_i - t_(i+1) modulo p, not reduced.
+fn mask_word(p: u64, t: u64, tf: u64) -> u64
+    requires room { ⌜ p ≤ 2 ^ 63 ⌝ }
+    requires items { ⌜ PairBelow p (pair t tf) ⌝ }
+    ensures is { λ d. ⌜ Cong p d (mask p (pair t tf)) ⌝ }
+    ensures below { λ d. ⌜ d < p + p ⌝ }
+{
+    t + (p - tf)
+}
 
 // z_i modulo p = 2^(2k+1) - 1, from the sub-shares i and i + 1 of x, of y and of the items.
 fn ring_word(k: u64, p: u64, x: u64, xf: u64, y: u64, yf: u64, t: u64, tf: u64) -> u64
@@ -21,7 +32,7 @@ fn ring_word(k: u64, p: u64, x: u64, xf: u64, y: u64, yf: u64, t: u64, tf: u64) 
 {
     let e = 2 * k + 1;
     let sum = add_mod(e, p, y, yf);
-    mul_add_mod(k, p, x, sum, xf, y, t + (p - tf))
+    mul_add_mod(k, p, x, sum, xf, y, mask_word(p, t, tf))
 }
 
 // z_i of bits, from the same.
@@ -35,16 +46,16 @@ fn bit_word(x: u64, xf: u64, y: u64, yf: u64, t: u64, tf: u64) -> u64
     (x & (y ^ yf)) ^ (xf & y) ^ t ^ tf
 }
 
-// z_0, z_1 and z_2 in a ring.
-pub fn ring_words(r: Ring, x: Sharing, y: Sharing, t: Sharing) -> Sharing
-    requires left { ⌜ InRange (modulusOf r) x ⌝ }
-    requires right { ⌜ InRange (modulusOf r) y ⌝ }
-    requires items { ⌜ InRange (modulusOf r) t ⌝ }
-    ensures is { λ z. ⌜ z ≡ sharing (gated (modulusOf r) (parts x) (parts y) (parts t)) ⌝ }
-    ensures below { λ z. ⌜ InRange (modulusOf r) z ⌝ }
+// z_0, z_1 and z_2 modulo p = 2^(2k+1) - 1.
+pub fn ring_words(k: u64, p: u64, x: Sharing, y: Sharing, t: Sharing) -> Sharing
+    requires modulus { ⌜ p ≡ modulus (2 * k + 1) ⌝ }
+    requires width { ⌜ (2 ≤ k) × (k ≤ 30) ⌝ }
+    requires left { ⌜ InRange p x ⌝ }
+    requires right { ⌜ InRange p y ⌝ }
+    requires items { ⌜ InRange p t ⌝ }
+    ensures is { λ z. ⌜ z ≡ sharing (gated p (parts x) (parts y) (parts t)) ⌝ }
+    ensures below { λ z. ⌜ InRange p z ⌝ }
 {
-    let k = r.width() / 2;
-    let p = r.modulus();
     Sharing {
         s0: ring_word(k, p, x.s0, x.s1, y.s0, y.s1, t.s0, t.s1),
         s1: ring_word(k, p, x.s1, x.s2, y.s1, y.s2, t.s1, t.s2),
@@ -67,6 +78,17 @@ pub fn bit_words(x: Sharing, y: Sharing, t: Sharing) -> Sharing
     }
 }
 
+// z_i in a ring, from its products and the items.
+fn masked(r: Ring, products: u64, t: u64, tf: u64) -> u64
+    requires products { ⌜ products < modulusOf r + modulusOf r ⌝ }
+    requires items { ⌜ PairBelow (modulusOf r) (pair t tf) ⌝ }
+    ensures is { λ z. ⌜ z ≡ (products + mask (modulusOf r) (pair t tf)) % modulusOf r ⌝ }
+    ensures below { λ z. ⌜ z < modulusOf r ⌝ }
+{
+    let d = mask_word(r.modulus(), t, tf);
+    r.reduce_sum(products + d)
+}
+
 // z_0, z_1 and z_2 in a ring, of a bit at place 0 with a bit at place 1.
 pub fn words_of_bits(r: Ring, b0: u64, b1: u64, t: Sharing) -> Sharing
     requires left { ⌜ b0 < 2 ⌝ }
@@ -76,9 +98,9 @@ pub fn words_of_bits(r: Ring, b0: u64, b1: u64, t: Sharing) -> Sharing
     ensures below { λ z. ⌜ InRange (modulusOf r) z ⌝ }
 {
     Sharing {
-        s0: r.add(b0 * b1, r.sub(t.s0, t.s1)),
-        s1: r.sub(t.s1, t.s2),
-        s2: r.sub(t.s2, t.s0),
+        s0: masked(r, b0 * b1, t.s0, t.s1),
+        s1: masked(r, 0, t.s1, t.s2),
+        s2: masked(r, 0, t.s2, t.s0),
     }
 }
 
@@ -90,10 +112,9 @@ pub fn words_by_bit(r: Ring, x: Sharing, b2: u64, t: Sharing) -> Sharing
     ensures is { λ z. ⌜ z ≡ sharing (gated (modulusOf r) (parts x) (three 0 0 b2) (parts t)) ⌝ }
     ensures below { λ z. ⌜ InRange (modulusOf r) z ⌝ }
 {
-    let sum = r.add(x.s2, x.s0);
     Sharing {
-        s0: r.sub(t.s0, t.s1),
-        s1: r.add(x.s1 * b2, r.sub(t.s1, t.s2)),
-        s2: r.add(sum * b2, r.sub(t.s2, t.s0)),
+        s0: masked(r, 0, t.s0, t.s1),
+        s1: masked(r, x.s1 * b2, t.s1, t.s2),
+        s2: masked(r, (x.s2 + x.s0) * b2, t.s2, t.s0),
     }
 }

@@ -3,14 +3,17 @@ use Prim.Native.Nat.{ℕ, _+_, _*_, _-_, _/_, _%_, _<_, _≤_, _^_}
 use mathlib.Core.Path.{_≡_, sym, _∙_, ap}
 use mathlib.Core.Logic.{⊎-elim}
 use native.Mathlib.Nat.{
+  add-mul-mod-self-left,
   div-add-mod',
   div-lt-iff-lt-mul,
   div-mul-le-self,
   eq-zero-or-pos,
+  le-div-iff-mul-le,
   le-refl,
   mod-eq-of-lt,
   mod-eq-sub-mod,
   mod-lt,
+  mul-add-div-right,
   mul-le-mul,
 }
 use native.Mathlib.Omega.{arith}
@@ -48,18 +51,29 @@ fold-lt e p s h room =
     let top : s / 2 ^ e < p = div-lt-iff-lt-mul (pow-pos e) .1 room in
     omega (arith, mod-lt s (pow-pos e), modulus-suc e)
 
+-- a wider shift leaves less
+pub div-pow-le : {i e : ℕ} (s : ℕ) → i ≤ e → s / 2 ^ e ≤ s / 2 ^ i
+div-pow-le {i} {e} s wide =
+    le-div-iff-mul-le (pow-pos i) .1 (omega (arith, mul-le-mul (le-refl (s / 2 ^ e)) (pow-mono wide), div-mul-le-self s (2 ^ e)))
+
 -- any word, where e is 13 or more: what is left above p shrinks by 13 bits
 fold-shrinks : (e p s : ℕ) → p ≡ modulus e → 13 ≤ e → fold e s ≤ s / 2 ^ 13 + p
 fold-shrinks e p s h wide =
     let low : s % 2 ^ e ≤ p = omega (arith, mod-lt s (pow-pos e), modulus-suc e) in
-    let high : s / 2 ^ e * 2 ^ 13 ≤ s = omega (arith, mul-le-mul (le-refl (s / 2 ^ e)) (pow-mono {i = 13} wide), div-mul-le-self s (2 ^ e)) in
-    omega arith
+    omega (arith, div-pow-le {i = 13} s wide)
 
 pub four-folds-lt : (e p s : ℕ) → p ≡ modulus e → 13 ≤ e → s < 2 ^ 64 → fold e (fold e (fold e (fold e s))) < p + p
 four-folds-lt e p s h wide word =
     let step : (n : ℕ) → fold e n ≤ n / 2 ^ 13 + p = λ n. fold-shrinks e p n h wide in
     let large : 2 ^ 13 ≤ p + 1 = omega (arith, pow-mono {i = 13} wide, modulus-suc e) in
     omega (arith, step s, step (fold e s), step (fold e (fold e s)), step (fold e (fold e (fold e s))))
+
+-- with the fold and one more, a word passes bit e once for each p in it
+pub passes : (e p s : ℕ) → p ≡ modulus e → fold e s < p + p → (s + s / 2 ^ e + 1) / 2 ^ e ≡ s / 2 ^ e + (fold e s + 1) / 2 ^ e
+passes e p s h small =
+    let whole : s / 2 ^ e * 2 ^ e + s % 2 ^ e ≡ s = div-add-mod' s (2 ^ e) in
+    let split : s + s / 2 ^ e + 1 ≡ s / 2 ^ e * 2 ^ e + (fold e s + 1) = omega arith in
+    ap (λ (n : ℕ). n / 2 ^ e) split ∙ mul-add-div-right (pow-pos e) (s / 2 ^ e) (fold e s + 1)
 
 -- the sum of two numbers below a modulus fits a word
 pub modulus-room : {e p : ℕ} → p ≡ modulus e → e < 64 → p + 1 ≤ 2 ^ 63
@@ -94,3 +108,16 @@ reduced e p s h sum = low-bits e p (s + (s + 1) / 2 ^ e) h ∙ ⊎-elim small la
         let left : (s + 1) % 2 ^ e ≡ s - p = omega arith in
         let below : s - p < p = omega arith in
         ap (λ (n : ℕ). (s + n) % 2 ^ e) one ∙ left ∙ sym (mod-eq-sub-mod above ∙ mod-eq-of-lt below)
+
+-- a fold and this at once
+pub reduced-short : (e p s : ℕ) → p ≡ modulus e → s < p * 2 ^ e → bitAnd (s + (s + s / 2 ^ e + 1) / 2 ^ e) p ≡ s % p
+reduced-short e p s h room =
+    let small : fold e s < p + p = fold-lt e p s h room in
+    let whole : s / 2 ^ e * 2 ^ e + s % 2 ^ e ≡ s = div-add-mod' s (2 ^ e) in
+    let split : s + (s + s / 2 ^ e + 1) / 2 ^ e ≡ fold e s + (fold e s + 1) / 2 ^ e + 2 ^ e * (s / 2 ^ e) = omega (arith, passes e p s h small) in
+    low-bits e p (s + (s + s / 2 ^ e + 1) / 2 ^ e) h
+    ∙ ap (λ (n : ℕ). n % 2 ^ e) split
+    ∙ add-mul-mod-self-left (fold e s + (fold e s + 1) / 2 ^ e) (2 ^ e) (s / 2 ^ e)
+    ∙ sym (low-bits e p (fold e s + (fold e s + 1) / 2 ^ e) h)
+    ∙ reduced e p (fold e s) h small
+    ∙ fold-same e s h

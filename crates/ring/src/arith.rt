@@ -5,6 +5,7 @@ ghost use Rattle.ring.specs.Modular.{diff};
 ghost use Rattle.ring.specs.Rings.{modulusOf, widthOf};
 use crate::modular::add_mod;
 use crate::modular::mul_mod;
+use crate::modular::reduce_short;
 use crate::modular::reduce_word;
 use crate::modular::sub_mod;
 use crate::modular::turn_mod;
@@ -39,6 +40,15 @@ impl Ring {
         ensures below { λ r. ⌜ r < modulusOf self ⌝ }
     {
         mul_mod(self.width() / 2, self.modulus(), a, b)
+    }
+
+    // s modulo p, of a sum of up to four numbers below p.
+    pub fn reduce_sum(self, s: u64) -> u64
+        requires { ⌜ s < 4 * modulusOf self ⌝ }
+        ensures is { λ r. ⌜ r ≡ s % modulusOf self ⌝ }
+        ensures below { λ r. ⌜ r < modulusOf self ⌝ }
+    {
+        reduce_short(self.width(), self.modulus(), s)
     }
 
     // a modulo p, of any word.

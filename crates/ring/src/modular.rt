@@ -62,7 +62,7 @@ fn columns(k: u64, p: u64, a: u64, b: u64, c: u64, d: u64) -> u64
     requires left { ⌜ (a < p) × (b < p) ⌝ }
     requires right { ⌜ (c < p) × (d < p) ⌝ }
     ensures is { λ r. ⌜ Cong p r (a * b + c * d) ⌝ }
-    ensures below { λ r. ⌜ r < p * 2 ^ (2 * k + 1) ⌝ }
+    ensures below { λ r. ⌜ (r < p * 2 ^ (2 * k + 1)) × (r < 15 * 2 ^ 60) ⌝ }
 {
     let low = p >> k;
     let a1 = a >> (k + 1);
@@ -74,8 +74,7 @@ fn columns(k: u64, p: u64, a: u64, b: u64, c: u64, d: u64) -> u64
     let d1 = d >> (k + 1);
     let d0 = d & low;
     let m = a1 * b0 + a0 * b1 + (c1 * d0 + c0 * d1);
-    let m0 = m & (low >> 1);
-    2 * (a1 * b1 + c1 * d1) + (m >> k) + m0 * (low + 1) + (a0 * b0 + c0 * d0)
+    2 * (a1 * b1 + c1 * d1) + (m >> k) + ((m << (k + 1)) & p) + (a0 * b0 + c0 * d0)
 }
 
 // 2^k × a modulo p: the e bits of a, turned left by k.
@@ -101,15 +100,15 @@ pub fn reduce_word(e: u64, p: u64, s: u64) -> u64
     reduce_once(e, p, fold(e, p, fold(e, p, twice)))
 }
 
-// s modulo p, of a word with few bits above bit e: one fold brings it below 2p.
+// s modulo p, of a word with few bits above bit e: a fold and a subtraction at once, since s div p is s >> e or one more.
 pub fn reduce_short(e: u64, p: u64, s: u64) -> u64
     requires modulus { ⌜ p ≡ modulus e ⌝ }
-    requires width { ⌜ e < 64 ⌝ }
-    requires room { ⌜ s < p * 2 ^ e ⌝ }
+    requires width { ⌜ (5 ≤ e) × (e < 64) ⌝ }
+    requires room { ⌜ (s < p * 2 ^ e) × (s < 15 * 2 ^ 60) ⌝ }
     ensures is { λ r. ⌜ r ≡ s % p ⌝ }
     ensures below { λ r. ⌜ r < p ⌝ }
 {
-    reduce_once(e, p, fold(e, p, s))
+    (s + ((s + (s >> e) + 1) >> e)) & p
 }
 
 // What is above bit e, added to what is below it: the same modulo p.

@@ -1,19 +1,20 @@
--- The difference is the same modulo p.
+-- The sum with 2 (p - uv) is below 4p, and the difference modulo p.
+use mathlib.Core.Path.{_∙_}
 use native.Mathlib.Omega.{arith}
 use borrow.Author.Needs.{needs}
+use Rattle.ring.proofs.RangeLaw.{modulus-lt}
 use Rattle.compose.proofs.ShareLaw.{join-is}
 use Rattle.compose.proofs.bits.join_share.Statement.{statement}
 use Rattle.compose.proofs.bits.join_share.Tie as tie
-
-returns : tie.Need-returns
-returns c =
-    (join-is _ _ _ _ (omega arith) (c .before .before .add .ensures .0) (c .before .add2 .ensures .0) (c .sub .ensures .0), c .sub .ensures .1)
 
 pub join-share-spec : {M : Type 1} → statement M
 join-share-spec =
     tie.close
     (tie.spec
+    (λ c. omega (arith, modulus-lt (c .args .r)))
     (λ c κs. search needs)
-    (λ c κs. search needs)
-    (λ c κs. search needs)
-    returns)
+    (λ c. omega (arith, c .modulus .ensures))
+    (λ c. omega (arith, c .modulus .ensures, modulus-lt (c .before .args .r)))
+    (λ c. omega (arith, c .modulus .ensures, modulus-lt (c .before .args .r)))
+    (λ c κs. omega (arith, c .modulus .ensures))
+    (λ c. (c .reduce-sum .ensures .0 ∙ join-is _ _ _ _ (c .before .modulus .ensures) (c .before .before .pre .1 .1), c .reduce-sum .ensures .1)))

@@ -1,50 +1,29 @@
 -- A number below the modulus, times a bit, is below it.
 use borrow.Author.Needs.{needs}
+use Prim.Native.Nat.{_+_, _*_, _<_}
 use native.Mathlib.Omega.{arith}
-use Rattle.ring.proofs.RangeLaw.{modulus-lt}
+use Rattle.ring.specs.Rings.{modulusOf}
+use Rattle.ring.proofs.RangeLaw.{modulus-gt, modulus-lt}
 use Rattle.gate.proofs.WordLaw.{bit-times-lt, words-by-bit}
 use Rattle.gate.proofs.words.words_by_bit.Statement.{statement}
 use Rattle.gate.proofs.words.words_by_bit.Tie as tie
 
-one-fits : tie.Need-mul-add
-one-fits c =
-    let start = c .before .before .before in
-    omega (arith, bit-times-lt (start .pre .0 .one) (start .pre .1 .0), modulus-lt (start .args .r))
+-- x_1 and x_2 + x_0, times the bit
+one : (c : tie.After-struct-known) → c .before .before .args .x .s1 * c .before .before .args .b2 < modulusOf (c .before .before .args .r)
+one c = bit-times-lt (c .before .before .pre .0 .one) (c .before .before .pre .1 .0)
 
-one-masked : tie.Need-add-requires-2
-one-masked c κs =
-    let start = c .before .before .before .before in
-    omega (arith, bit-times-lt (start .pre .0 .one) (start .pre .1 .0))
-
-two-fits : tie.Need-mul-add-2
-two-fits c =
-    let summed = c .before .before .before .before in
-    let start = summed .before in
-    omega (arith, bit-times-lt (summed .add .ensures .1) (start .pre .1 .0), modulus-lt (start .args .r))
-
-two-masked : tie.Need-add-requires-3
-two-masked c κs =
-    let summed = c .before .before .before .before .before in
-    omega (arith, bit-times-lt (summed .add .ensures .1) (summed .before .pre .1 .0))
-
-returns : tie.Need-returns
-returns c =
-    let one = c .before .before in
-    let zero = one .before .before .before in
-    let summed = zero .before in
-    words-by-bit _ _ _ _ (summed .add .ensures .0) (one .before .sub2 .ensures .0) (c .before .sub3 .ensures .0)
-    (zero .sub .ensures) (one .add2 .ensures) (c .add3 .ensures)
+two : (c : tie.Start) → (c .args .x .s2 + c .args .x .s0) * c .args .b2 < modulusOf (c .args .r) + modulusOf (c .args .r)
+two c = bit-times-lt (omega (arith, c .pre .0)) (c .pre .1 .0)
 
 pub words-by-bit-spec : {M : Type 1} → statement M
 words-by-bit-spec =
     tie.close
     (tie.spec
-    (λ c κs. search needs)
-    (λ c κs. search needs)
-    one-fits
-    (λ c κs. search needs)
-    one-masked
-    two-fits
-    (λ c κs. search needs)
-    two-masked
-    returns)
+    (λ c κs. omega (arith, modulus-gt (c .args .r)))
+    (λ c. omega (arith, one c, modulus-lt (c .before .before .args .r)))
+    (λ c κs. omega (arith, one c))
+    (λ c. omega (arith, modulus-lt (c .before .before .before .before .args .r)))
+    (λ c. omega (arith, two (c .before .before .before .before), modulus-lt (c .before .before .before .before .args .r)))
+    (λ c κs. omega (arith, two (c .before .before .before .before)))
+    (λ c.
+    words-by-bit _ _ _ _ (c .before .before .before .before .masked .ensures) (c .before .before .masked2 .ensures) (c .masked3 .ensures)))

@@ -26,6 +26,12 @@ room c =
     let large : 31 ≤ c .args .p = omega (arith, center c) in
     omega (arith, left c, right c, center c, mul-le-mul large (le-refl (2 ^ (2 * c .args .k + 1))), odd-power (c .args .k))
 
+returns : tie.Need-returns
+returns c = (
+  summed-cong (c .args .k) (c .args .p) (c .pre .0) (c .args .a) (c .args .b) (c .args .c) (c .args .d) (c .pre .1 .0 .1),
+  (room c, omega (arith, left c, right c, center c)),
+)
+
 pub columns-spec : {M : Type 1} → statement M
 columns-spec =
     tie.close
@@ -59,4 +65,4 @@ columns-spec =
     (λ c. omega (arith, left c, right c, center c))
     (λ c. omega (arith, left c, right c, center c))
     (λ c. omega (arith, left c, right c, center c))
-    (λ c. (summed-cong (c .args .k) (c .args .p) (c .pre .0) (c .args .a) (c .args .b) (c .args .c) (c .args .d), room c)))
+    returns)

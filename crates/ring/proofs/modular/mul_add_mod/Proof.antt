@@ -11,7 +11,7 @@ use Rattle.ring.proofs.modular.mul_add_mod.Statement.{statement}
 use Rattle.ring.proofs.modular.mul_add_mod.Tie as tie
 
 folded : (c : tie.After-fold) → c .fold .result < c .before .before .args .p + c .before .before .args .p
-folded c = rw (c .fold .ensures) (fold-lt _ _ _ (c .before .before .pre .0) (c .before .columns .ensures .1))
+folded c = rw (c .fold .ensures) (fold-lt _ _ _ (c .before .before .pre .0) (c .before .columns .ensures .1 .0))
 
 -- p is below 2^61 and 2^e is 4 or more
 sizes : (c : tie.Start) → (c .args .p + 1 ≤ 2 ^ 61) × (4 ≤ 2 ^ (2 * c .args .k + 1))
@@ -44,5 +44,5 @@ mul-add-mod-spec =
     (λ c κs. search needs)
     (λ c κs. search needs)
     (λ c. omega (arith, folded c, sizes (c .before .before)))
-    (λ c κs. (c .before .before .pre .0, (omega arith, room c)))
+    (λ c κs. (c .before .before .pre .0, (omega arith, (room c, omega (arith, folded c, sizes (c .before .before))))))
     returns)
