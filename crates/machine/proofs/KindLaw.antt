@@ -2,7 +2,6 @@
 use Prim.Native.Nat.{ℕ, _+_, _%_, _≤_, _^_}
 use mathlib.Core.Bool.{Bool, false, true, _&&_, _||_}
 use mathlib.Core.Path.{_≡_, refl}
-use native.Mathlib.Nat.{mod-add-mod}
 use borrow.Author.Tests.{leb-true, ltb-true}
 use lib.Dec.{leb, ltb}
 use Rattle.ring.specs.Rings.{modulusOf}
@@ -65,10 +64,7 @@ number-kind empty h = cc
 number-kind (number r) h = refl
 number-kind (bits l) h = cc
 
--- the total of a number, from two sums modulo p
-pub number-value : {a : Register} (r : Ring) (x : Sharing) {half v : ℕ} → a ≡ Number r x
-    → half ≡ (x .s0 + x .s1) % modulusOf r
-    → v ≡ (half + x .s2) % modulusOf r
-    → v ≡ valueOf a
+-- the total of a number
+pub number-value : {a : Register} (r : Ring) (x : Sharing) {v : ℕ} → a ≡ Number r x → v ≡ (x .s0 + x .s1 + x .s2) % modulusOf r → v ≡ valueOf a
 unfolding total
-number-value r x e h k = rw (e, k, h) (mod-add-mod (x .s0 + x .s1) (modulusOf r) (x .s2))
+number-value r x e is = rw (e, is)

@@ -106,10 +106,7 @@ impl Register {
     {
         match self {
             Register::Empty => 0,
-            Register::Number(r, x) => {
-                let half = r.add(x.s0, x.s1);
-                r.add(half, x.s2)
-            }
+            Register::Number(r, x) => { r.reduce_sum(x.s0 + x.s1 + x.s2) }
             Register::Bits(_, x) => x.s0 ^ x.s1 ^ x.s2,
         }
     }

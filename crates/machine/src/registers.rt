@@ -118,7 +118,13 @@ impl Machine {
 fn in_range(m: u64, x: Sharing) -> bool
     ensures { λ r. ⌜ r ≡ sharesBelow m x ⌝ }
 {
-    (x.s0 < m) & ((x.s1 < m) & (x.s2 < m))
+    if m <= x.s0 {
+        return false;
+    }
+    if m <= x.s1 {
+        return false;
+    }
+    x.s2 < m
 }
 
 // 1 to 59 bits, each word below 2^l.
