@@ -67,10 +67,9 @@ pub taken : {o o′ : Order} {m : Machine} {k : Change} {l : Place → List ℕ}
 taken {m = m} T c e p = record { fits = p .fits; is = p .is ∙ ap (λ (o : Order). step o m T c) (sym e) }
 
 -- orders 2 to 8: what the record decides, attempted
-pub stepped : {o o′ : Order} {m : Machine} {d : ℕ} {t : Prepared} {k : Change} {l : Place → List ℕ} (D : List ℕ) (T c : Place → List ℕ)
-    → o ≡ o′ → Prepares o′ m d t → Changes m k l (attempted t d m T c) → Changes m k l (step o m (record { masks = T; dealer = D }) c)
-stepped D T c e p q =
-    taken (record { masks = T; dealer = D }) c e (record { fits = q .fits; is = q .is ∙ sym (p .is D T c) })
+pub stepped : {o : Order} {m : Machine} {d : ℕ} {t : Prepared} {k : Change} {l : Place → List ℕ} (D : List ℕ) (T c : Place → List ℕ)
+    → Prepares o m d t → Changes m k l (attempted t d m T c) → Changes m k l (step o m (record { masks = T; dealer = D }) c)
+stepped D T c p q = record { fits = q .fits; is = q .is ∙ sym (p .is D T c) }
 
 -- and what applying it answers
 pub answered : {x : Outcome} {k : Change} {l : Place → List ℕ} (o : Order) (m : Machine) (T : Tapes) (c : Place → List ℕ)

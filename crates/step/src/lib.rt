@@ -1,5 +1,6 @@
 // The machine's step: one order on a record, with the tapes and channels that are lent.
 mod found;
+mod ways;
 mod words;
 
 pub use found::Found;
@@ -13,6 +14,8 @@ ghost use Rattle.order.specs.Answers.{reported};
 ghost use Rattle.order.specs.Changes.{Changes};
 ghost use Rattle.step.specs.Found.{foundIn};
 ghost use Rattle.step.specs.Lent.{TapesStand, tapesAt};
+use crate::ways::Way;
+use crate::ways::way_of;
 use attempt::attempt;
 use exchange::deal;
 use exchange::open;
@@ -20,14 +23,7 @@ use machine::Machine;
 use machine::Order;
 use order::Change;
 use order::Outcome;
-use order::add;
 use order::apply;
-use order::compose;
-use order::convert;
-use order::decompose;
-use order::multiply;
-use order::scale;
-use order::shift;
 
 // What an order does to a record, by what it has found there.
 pub fn decide(
@@ -46,32 +42,13 @@ pub fn decide(
 {
     let s = found.sound;
     let a = found.a;
-    let b = found.b;
     let at = found.masks_at;
     let ch = found.channels_at;
-    match o {
-        Order::Deal { d, e, v } => deal(s, found.dealer_at, d, e, v, dealer),
-        Order::Add { d, x, y } => attempt(at, ch, d, add(s, d, x, y, a, b), m0, m1, m2, c0, c1, c2),
-        Order::Scale { d, x, c } => {
-            attempt(at, ch, d, scale(s, d, x, c, a), m0, m1, m2, c0, c1, c2)
-        }
-        Order::Multiply { d, x, y } => {
-            let t = multiply(s, d, x, y, a, b);
-            attempt(at, ch, d, t, m0, m1, m2, c0, c1, c2)
-        }
-        Order::Decompose { d, x, l } => {
-            attempt(at, ch, d, decompose(s, d, x, l, a), m0, m1, m2, c0, c1, c2)
-        }
-        Order::Convert { d, x, f } => {
-            attempt(at, ch, d, convert(s, d, x, f, a), m0, m1, m2, c0, c1, c2)
-        }
-        Order::Shift { d, x, s: n } => {
-            attempt(at, ch, d, shift(s, d, x, n, a), m0, m1, m2, c0, c1, c2)
-        }
-        Order::Compose { d, x, f } => {
-            attempt(at, ch, d, compose(s, d, x, f, a), m0, m1, m2, c0, c1, c2)
-        }
-        Order::Open { x } => open(s, x, a, ch, c0, c1, c2),
+    let w = way_of(found, o);
+    match w {
+        Way::Deal { d, e, v } => deal(s, found.dealer_at, d, e, v, dealer),
+        Way::Attempt { d, t } => attempt(at, ch, d, t, m0, m1, m2, c0, c1, c2),
+        Way::Open { x } => open(s, x, a, ch, c0, c1, c2),
     }
 }
 
