@@ -2,6 +2,7 @@
 use Prim.Native.Nat.{ℕ}
 use mathlib.Core.List.{List}
 use mathlib.Core.Path.{_≡_, _∙_, ap, sym}
+use Rattle.ring.specs.Modular.{Cong}
 use Rattle.gate.specs.Gates.{gated}
 use Rattle.gate.specs.Places.{Place, Sent, parts, sharing, three}
 use Rattle.gate.specs.declared.sharing.Sharing.{Sharing}
@@ -19,11 +20,11 @@ use Rattle.compose.specs.Steps.{Joins}
 pub joins : {m : ℕ} (u v : Place → ℕ) {t z h : Sharing} {c₀ c₁ c₂ d₀ d₁ d₂ : List ℕ}
     → z ≡ sharing (gated m u v (parts t))
     → Sent z c₀ c₁ c₂ d₀ d₁ d₂
-    → ((i : Place) → parts h i ≡ joined m (u i) (v i) (parts z i))
+    → ((i : Place) → Cong m (parts h i) (joined m (u i) (v i) (parts z i)))
     → Joins m u v (parts t) (three c₀ c₁ c₂) h (three d₀ d₁ d₂)
 joins {m} u v {t} is sent shares =
     record {
-      is = λ i. rw (ap parts is ∙ parts-sharing (gated m u v (parts t))) at (shares i);
+      near = λ i. rw (ap parts is ∙ parts-sharing (gated m u v (parts t))) at (shares i);
       stored = stored (gated m u v (parts t)) is sent;
     }
 

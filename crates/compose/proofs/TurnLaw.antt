@@ -8,11 +8,12 @@ use lib.Pow.{pow-add}
 use borrow.Rule.Slice.PartMut.{same-len-mid}
 use Rattle.ring.specs.Modular.{Cong}
 use Rattle.ring.specs.Rings.{bitOf}
-use Rattle.ring.proofs.CongLaw.{cong-add, cong-mod, cong-mul, cong-of-eq, cong-refl, cong-sym, cong-trans}
+use Rattle.ring.proofs.CongLaw.{cong-add, cong-mod, cong-mul, cong-of-eq, cong-refl, cong-sym, cong-trans, diff-cong}
 use Rattle.gate.specs.Gates.{gated}
 use Rattle.gate.specs.Places.{InRange, Place, p0, p1, p2, parts, tabled, three}
 use Rattle.gate.specs.declared.sharing.Sharing.{Sharing}
 use Rattle.gate.proofs.PlaceLaw.{each}
+use Rattle.gate.proofs.WordLaw.{gated-cong}
 use Rattle.circuit.specs.Circuits.{after, heads, words}
 use Rattle.circuit.specs.Compose.{Summing, composeGates, firstGate, joined, secondGate, summingStart}
 use Rattle.circuit.specs.Lent.{ItemsBelow, Long}
@@ -43,13 +44,13 @@ module _ (m j weight : ℕ) (w : Sharing) {sum : Place → ℕ} {s : Place → S
   unfolding words firstGate
   first-words t = rw (read p0, read p1)
 
-  module _ (x half : Place → ℕ) (is : (i : Place) → half i ≡ joined m (one i) (two i) (x i)) where
+  module _ (x half : Place → ℕ) (near : (i : Place) → Cong m (half i) (joined m (one i) (two i) (x i))) where
     halfway : Place → Summing ℕ
     halfway = after (firstGate wordBit m j) s x
 
-    half-is : (i : Place) → halfway i .half ≡ half i
+    half-near : (i : Place) → Cong m (halfway i .half) (half i)
     unfolding halfway after firstGate
-    half-is = each (λ i. halfway i .half ≡ half i) (rw (read p0) (sym (is p0))) (rw (read p1) (sym (is p1))) (sym (is p2))
+    half-near = each (λ i. Cong m (halfway i .half) (half i)) (rw (read p0) (cong-sym (near p0))) (rw (read p1) (cong-sym (near p1))) (cong-sym (near p2))
 
     sum-is : (i : Place) → halfway i .sum ≡ sum i
     unfolding halfway after firstGate
@@ -59,22 +60,28 @@ module _ (m j weight : ℕ) (w : Sharing) {sum : Place → ℕ} {s : Place → S
     unfolding halfway after firstGate
     read-last = read p2
 
-    second-words : (t : Place → ℕ) → words (secondGate wordBit m j weight) halfway t ≡ gated m (tabled half) last t
-    unfolding words secondGate
-    second-words t = rw (half-is p0, half-is p1, half-is p2, read-last)
+    second-words : (t : Place → ℕ) → words (secondGate wordBit m j weight) halfway t ≡ gated m half last t
+    unfolding words secondGate halfway gated
+    second-words t = rw read-last (gated-cong m {u = λ i. halfway i .half} last t half-near)
 
-    second-sums : (y b z : Place → ℕ)
-        → ((i : Place) → b i ≡ joined m (half i) (last i) (y i))
+    second-sums : 0 < m → (y b z : Place → ℕ)
+        → ((i : Place) → Cong m (b i) (joined m (half i) (last i) (y i)))
         → ((i : Place) → z i ≡ (sum i + weight * b i) % m)
         → (i : Place) → after (secondGate wordBit m j weight) halfway y i .sum ≡ z i
     unfolding after secondGate
-    second-sums y b z bit-is total =
+    second-sums pos y b z bit-near total =
         each (λ i. after (secondGate wordBit m j weight) halfway y i .sum ≡ z i)
-        (rw (half-is p0, sum-is p0, ← bit-is p0) (sym (total p0)))
-        (rw (half-is p1, sum-is p1, ← bit-is p1) (sym (total p1)))
-        (rw (half-is p2, sum-is p2, read-last, ← bit-is p2) (sym (total p2)))
+        (rw (sum-is p0) (added p0)) (rw (sum-is p1) (added p1)) (rw (sum-is p2, read-last) (added p2))
+      where
+        added : (i : Place) → (sum i + weight * joined m (halfway i .half) (last i) (y i)) % m ≡ z i
+        added i =
+            let same : joined m (halfway i .half) (last i) (y i) ≡ joined m (half i) (last i) (y i)
+            = diff-cong pos (cong-add (half-near i) (cong-refl (last i))) (cong-refl (2 * y i)) in
+            let share : Cong m (joined m (halfway i .half) (last i) (y i)) (b i) = cong-trans (cong-of-eq same) (cong-sym (bit-near i)) in
+            cong-add (cong-refl (sum i)) (cong-mul (cong-refl weight) share) .same ∙ sym (total i)
 
   bit-summed : {half b t t′ : Sharing} {z : Place → ℕ} {c₀ c₁ c₂ t₀ t₁ t₂ d₀ d₁ d₂ h₀ h₁ h₂ : List ℕ}
+      → 0 < m
       → Long 1 c₀ c₁ c₂
       → Long 1 (partFrom 1 d₀) (partFrom 1 d₁) (partFrom 1 d₂)
       → t ≡ itemsAt 0 t₀ t₁ t₂
@@ -84,18 +91,19 @@ module _ (m j weight : ℕ) (w : Sharing) {sum : Place → ℕ} {s : Place → S
       → ((i : Place) → z i ≡ (sum i + weight * parts b i) % m)
       → Summed (bitGates wordBit m j weight) s (three t₀ t₁ t₂) (three c₀ c₁ c₂) z (putBack 1 d₀ d₁ d₂ h₀ h₁ h₂)
   unfolding halfway
-  bit-summed {half} {b} {t} {t′} {z} {c₀} {c₁} {c₂} {t₀} {t₁} {t₂} room room′ items items′ joins joins′ total =
+  bit-summed {half} {b} {t} {t′} {z} {c₀} {c₁} {c₂} {t₀} {t₁} {t₂} pos room room′ items items′ joins joins′ total =
       let T : Place → List ℕ = three t₀ t₁ t₂ in
       let U : Place → List ℕ = partsFrom 1 t₀ t₁ t₂ in
       let x : Place → ℕ = gated m one two (parts t) in
       let y : Place → ℕ = gated m (parts half) last (parts t′) in
       let later : heads U ≡ parts t′ = ap parts (items-next 1 t₀ t₁ t₂ ∙ sym items′) in
       let first = ran-gate (firstGate wordBit m j) s T (three c₀ c₁ c₂) x (rw (ap parts (sym items)) (first-words (parts t))) (rooms room) (joins .stored) in
-      let second = ran-gate (secondGate wordBit m j weight) (halfway x (parts half) (joins .is)) U _ y
-      (rw later (second-words x (parts half) (joins .is) (parts t′))) (rooms room′) (joins′ .stored) in
-      ran-summed (ran-three refl first second) (second-sums x (parts half) (joins .is) y (parts b) z (joins′ .is) total)
+      let second = ran-gate (secondGate wordBit m j weight) (halfway x (parts half) (joins .near)) U _ y
+      (rw later (second-words x (parts half) (joins .near) (parts t′))) (rooms room′) (joins′ .stored) in
+      ran-summed (ran-three refl first second) (second-sums x (parts half) (joins .near) pos y (parts b) z (joins′ .near) total)
 
 pub bit-joined : {m j : ℕ} {w half b t t′ : Sharing} {c₀ c₁ c₂ t₀ t₁ t₂ d₀ d₁ d₂ h₀ h₁ h₂ : List ℕ}
+    → 0 < m
     → Long 1 c₀ c₁ c₂
     → Long 1 (partFrom 1 d₀) (partFrom 1 d₁) (partFrom 1 d₂)
     → t ≡ itemsAt 0 t₀ t₁ t₂
@@ -103,8 +111,8 @@ pub bit-joined : {m j : ℕ} {w half b t t′ : Sharing} {c₀ c₁ c₂ t₀ t�
     → Joins m (three (bitOf (w .s0) j) 0 0) (three 0 (bitOf (w .s1) j) 0) (parts t) (three c₀ c₁ c₂) half (three d₀ d₁ d₂)
     → Joins m (parts half) (three 0 0 (bitOf (w .s2) j)) (parts t′) (partsFrom 1 d₀ d₁ d₂) b (three h₀ h₁ h₂)
     → JoinsBit m j (parts w) (three t₀ t₁ t₂) (three c₀ c₁ c₂) (parts b) (putBack 1 d₀ d₁ d₂ h₀ h₁ h₂)
-bit-joined {m} {j} {w} room room′ items items′ joins joins′ =
-    record { adds = λ weight sum z s holds total. bit-summed m j weight w holds room room′ items items′ joins joins′ total }
+bit-joined {m} {j} {w} pos room room′ items items′ joins joins′ =
+    record { adds = λ weight sum z s holds total. bit-summed m j weight w holds pos room room′ items items′ joins joins′ total }
 
 -- the weight of the next bit
 doubled : {m : ℕ} (j k next : ℕ) → Cong m (2 ^ j) (2 ^ k) → Cong m (2 ^ next) (2 ^ (j + 1)) → Cong m (2 ^ next) (2 ^ (k + 1))

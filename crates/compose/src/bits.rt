@@ -4,10 +4,10 @@ ghost use Prim.Native.Nat.{_+_, _*_, _%_, _<_, _≤_, _^_};
 ghost use Rattle.gate.specs.Places.{InRange, Place, parts, tabled, three};
 ghost use Rattle.ring.specs.Modular.{Cong};
 ghost use Rattle.ring.specs.Rings.{bitOf, modulusOf, widthOf};
-ghost use Rattle.circuit.specs.Compose.{composeGates, joined, summingStart};
+ghost use Rattle.circuit.specs.Compose.{composeGates, summingStart};
 ghost use Rattle.circuit.specs.Lent.{ItemsBelow, Left, Long};
 ghost use Rattle.circuit.specs.Orders.{composition, wordBit};
-ghost use Rattle.compose.specs.Steps.{Joins};
+ghost use Rattle.compose.specs.Steps.{Joined, Joins};
 ghost use Rattle.compose.specs.Sums.{JoinsBit, Summed};
 use circuit::items_at;
 use circuit::zeros;
@@ -17,24 +17,22 @@ use gate::ring_gate_of_bits;
 use ring::Ring;
 use ring::bit;
 
-// u + v - 2uv, of one place's shares and the gate's word.
+// u + v - 2uv of one place, not reduced, uv being the gate's word.
 fn join_share(r: Ring, u: u64, v: u64, uv: u64) -> u64
-    requires left { ⌜ u < modulusOf r ⌝ }
-    requires right { ⌜ v < modulusOf r ⌝ }
+    requires left { ⌜ u < 2 * modulusOf r + 2 ⌝ }
+    requires right { ⌜ v < 2 ⌝ }
     requires product { ⌜ uv < modulusOf r ⌝ }
-    ensures is { λ h. ⌜ h ≡ joined (modulusOf r) u v uv ⌝ }
-    ensures below { λ h. ⌜ h < modulusOf r ⌝ }
+    ensures { λ h. ⌜ Joined (modulusOf r) u v uv h ⌝ }
 {
-    r.reduce_sum(u + v + 2 * (r.modulus() - uv))
+    u + v + 2 * (r.modulus() - uv)
 }
 
-// u + v - 2uv at each place, z being the words of the gate.
+// The same at each place, z being the words of the gate.
 fn join_shares(r: Ring, u: Sharing, v: Sharing, z: Sharing) -> Sharing
-    requires left { ⌜ InRange (modulusOf r) u ⌝ }
-    requires right { ⌜ InRange (modulusOf r) v ⌝ }
+    requires left { ⌜ InRange (2 * modulusOf r + 2) u ⌝ }
+    requires right { ⌜ InRange 2 v ⌝ }
     requires product { ⌜ InRange (modulusOf r) z ⌝ }
-    ensures is { λ h. ⌜ ((i : Place) → parts h i ≡ joined (modulusOf r) (parts u i) (parts v i) (parts z i)) ⌝ }
-    ensures below { λ h. ⌜ InRange (modulusOf r) h ⌝ }
+    ensures { λ h. ⌜ ((i : Place) → Joined (modulusOf r) (parts u i) (parts v i) (parts z i) (parts h i)) ⌝ }
 {
     let s0 = join_share(r, u.s0, v.s0, z.s0);
     let s1 = join_share(r, u.s1, v.s1, z.s1);
@@ -42,7 +40,19 @@ fn join_shares(r: Ring, u: Sharing, v: Sharing, z: Sharing) -> Sharing
     Sharing { s0, s1, s2 }
 }
 
-// Sub-share 0 of bit j of w with sub-share 1.
+// Shares that stand for h, reduced.
+fn reduce_shares(r: Ring, h: Sharing) -> Sharing
+    requires { ⌜ InRange (7 * modulusOf r) h ⌝ }
+    ensures is { λ b. ⌜ ((i : Place) → parts b i ≡ parts h i % modulusOf r) ⌝ }
+    ensures below { λ b. ⌜ InRange (modulusOf r) b ⌝ }
+{
+    let s0 = r.reduce_sum(h.s0);
+    let s1 = r.reduce_sum(h.s1);
+    let s2 = r.reduce_sum(h.s2);
+    Sharing { s0, s1, s2 }
+}
+
+// Sub-share 0 of bit j of w with sub-share 1; what they give is not reduced.
 fn join_first(
     r: Ring,
     w: Sharing,
@@ -56,7 +66,7 @@ fn join_first(
     requires items { ⌜ InRange (modulusOf r) t ⌝ }
     requires room { ⌜ Long 1 (now c0) (now c1) (now c2) ⌝ }
     ensures is { λ h. ⌜ Joins (modulusOf r) (three (bitOf (w .s0) j) 0 0) (three 0 (bitOf (w .s1) j) 0) (parts t) (three (now (c0 .entry)) (now (c1 .entry)) (now (c2 .entry))) h (three (now (c0 .exit)) (now (c1 .exit)) (now (c2 .exit))) ⌝ }
-    ensures below { λ h. ⌜ InRange (modulusOf r) h ⌝ }
+    ensures below { λ h. ⌜ InRange (2 * modulusOf r + 2) h ⌝ }
 {
     let b0 = bit(w.s0, j);
     let b1 = bit(w.s1, j);
@@ -86,7 +96,7 @@ fn join_last(
     c2: &mut [u64],
 ) -> Sharing
     requires place { ⌜ j < 64 ⌝ }
-    requires half { ⌜ InRange (modulusOf r) half ⌝ }
+    requires half { ⌜ InRange (2 * modulusOf r + 2) half ⌝ }
     requires items { ⌜ InRange (modulusOf r) t ⌝ }
     requires room { ⌜ Long 1 (now c0) (now c1) (now c2) ⌝ }
     ensures is { λ h. ⌜ Joins (modulusOf r) (parts half) (three 0 0 (bitOf (w .s2) j)) (parts t) (three (now (c0 .entry)) (now (c1 .entry)) (now (c2 .entry))) h (three (now (c0 .exit)) (now (c1 .exit)) (now (c2 .exit))) ⌝ }
@@ -99,7 +109,7 @@ fn join_last(
         s1: 0,
         s2: b2,
     };
-    join_shares(r, half, v, z)
+    reduce_shares(r, join_shares(r, half, v, z))
 }
 
 // The ring shares of bit j of w: sub-share 0 with 1, then with 2.

@@ -8,7 +8,7 @@ use Rattle.ring.specs.Modular.{Cong, diff}
 use Rattle.ring.proofs.BitLaw.{and-bit, xor-bit}
 use Rattle.ring.proofs.CongLaw.{cong-add, cong-below, cong-mod, cong-mul, cong-of-eq, cong-refl, cong-sym, cong-trans}
 use Rattle.gate.specs.Gates.{crossed, gated, mask, word}
-use Rattle.gate.specs.Places.{InRange, PairBelow, held, p0, p1, p2, pair, parts, sharing, three}
+use Rattle.gate.specs.Places.{InRange, Pair, PairBelow, Place, held, next, p0, p1, p2, pair, parts, sharing, three}
 use Rattle.gate.specs.declared.sharing.Sharing.{Sharing}
 
 -- the mask, not reduced
@@ -35,6 +35,21 @@ pub ring-word-is : (p x xf y yf t tf sum d : ℕ)
     → Cong p d (mask p (pair t tf))
     → (x * sum + xf * y + d) % p ≡ word p (pair x xf) (pair y yf) (pair t tf)
 ring-word-is p x xf y yf t tf sum d is = word-from p x xf y yf t tf (x * sum + xf * y) (two-products p x xf y yf sum is)
+
+-- what x stands for modulo m is all that counts
+word-cong : (m x xf x′ xf′ y yf : ℕ) (t : Pair) → Cong m x x′ → Cong m xf xf′ → word m (pair x xf) (pair y yf) t ≡ word m (pair x′ xf′) (pair y yf) t
+unfolding word crossed
+word-cong m x xf x′ xf′ y yf t h k =
+    cong-add
+    (cong-add (cong-add (cong-mul h (cong-refl y)) (cong-mul h (cong-refl yf))) (cong-mul k (cong-refl y)))
+    (cong-refl (mask m t)) .same
+
+pub gated-cong : (m : ℕ) {u u′ : Place → ℕ} (v t : Place → ℕ) → ((i : Place) → Cong m (u i) (u′ i)) → gated m u v t ≡ gated m u′ v t
+unfolding gated
+gated-cong m {u} {u′} v t h =
+    let at : (i : Place) → word m (held u i) (held v i) (held t i) ≡ word m (held u′ i) (held v i) (held t i)
+    = λ i. word-cong m (u i) (u (next i)) (u′ i) (u′ (next i)) (v i) (v (next i)) (held t i) (h i) (h (next i)) in
+    rw (at p0, at p1, at p2)
 
 -- modulo 2 adding is subtracting
 masked-bit : (c t tf d z : ℕ) → d ≡ (c + t) % 2 → z ≡ (d + tf) % 2 → z ≡ (c + mask 2 (pair t tf)) % 2

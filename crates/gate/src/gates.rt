@@ -70,7 +70,7 @@ pub fn ring_gate_of_bits(
     z
 }
 
-// One gate in a ring, of x with a bit at place 2.
+// One gate in a ring, of x, which need not be reduced, with a bit at place 2.
 pub fn ring_gate_by_bit(
     r: Ring,
     x: Sharing,
@@ -80,7 +80,7 @@ pub fn ring_gate_by_bit(
     c1: &mut [u64],
     c2: &mut [u64],
 ) -> Sharing
-    requires left { ⌜ InRange (modulusOf r) x ⌝ }
+    requires left { ⌜ InRange (2 * modulusOf r + 2) x ⌝ }
     requires right { ⌜ b2 < 2 ⌝ }
     requires items { ⌜ InRange (modulusOf r) t ⌝ }
     requires room { ⌜ Room (now c0) (now c1) (now c2) ⌝ }

@@ -80,7 +80,7 @@ pub fn bit_words(x: Sharing, y: Sharing, t: Sharing) -> Sharing
 
 // z_i in a ring, from its products and the items.
 fn masked(r: Ring, products: u64, t: u64, tf: u64) -> u64
-    requires products { ⌜ products < modulusOf r + modulusOf r ⌝ }
+    requires products { ⌜ products < 5 * modulusOf r ⌝ }
     requires items { ⌜ PairBelow (modulusOf r) (pair t tf) ⌝ }
     ensures is { λ z. ⌜ z ≡ (products + mask (modulusOf r) (pair t tf)) % modulusOf r ⌝ }
     ensures below { λ z. ⌜ z < modulusOf r ⌝ }
@@ -104,9 +104,9 @@ pub fn words_of_bits(r: Ring, b0: u64, b1: u64, t: Sharing) -> Sharing
     }
 }
 
-// z_0, z_1 and z_2 in a ring, of x with a bit at place 2.
+// z_0, z_1 and z_2 in a ring, of x, which need not be reduced, with a bit at place 2.
 pub fn words_by_bit(r: Ring, x: Sharing, b2: u64, t: Sharing) -> Sharing
-    requires left { ⌜ InRange (modulusOf r) x ⌝ }
+    requires left { ⌜ InRange (2 * modulusOf r + 2) x ⌝ }
     requires right { ⌜ b2 < 2 ⌝ }
     requires items { ⌜ InRange (modulusOf r) t ⌝ }
     ensures is { λ z. ⌜ z ≡ sharing (gated (modulusOf r) (parts x) (three 0 0 b2) (parts t)) ⌝ }

@@ -42,9 +42,9 @@ impl Ring {
         mul_mod(self.width() / 2, self.modulus(), a, b)
     }
 
-    // s modulo p, of a sum of up to four numbers below p.
+    // s modulo p, of a sum of up to seven numbers below p.
     pub fn reduce_sum(self, s: u64) -> u64
-        requires { ⌜ s < 4 * modulusOf self ⌝ }
+        requires { ⌜ s < 7 * modulusOf self ⌝ }
         ensures is { λ r. ⌜ r ≡ s % modulusOf self ⌝ }
         ensures below { λ r. ⌜ r < modulusOf self ⌝ }
     {

@@ -1,6 +1,7 @@
 -- The two joins are the bit's two gates, the second on what is left of the channels.
 use native.Mathlib.Omega.{arith}
 use borrow.Author.Needs.{needs}
+use Rattle.ring.proofs.RangeLaw.{modulus-gt}
 use Rattle.circuit.specs.Lent.{Long}
 use Rattle.circuit.proofs.LentLaw.{long-less, long-on, long-same}
 use Rattle.circuit.proofs.TurnLaw.{items-in}
@@ -36,7 +37,7 @@ returns c =
     let first = taken2 .before .before .before .before .before .before .before in
     let taken = first .before .before .before .before in
     let pre = taken .before .before .before .before .before .before .before .pre in (
-      bit-joined (long-less (omega arith) (pre .1 .1 .1)) (long-on 1 1 (room taken2)) (taken .items-at .ensures) (taken2 .items-at2 .ensures)
+      bit-joined (omega (arith, modulus-gt (taken .before .before .before .before .before .before .before .args .r))) (long-less (omega arith) (pre .1 .1 .1)) (long-on 1 1 (room taken2)) (taken .items-at .ensures) (taken2 .items-at2 .ensures)
           (first .join-first .ensures .0) (last .join-last .ensures .0),
       last .join-last .ensures .1,
     )

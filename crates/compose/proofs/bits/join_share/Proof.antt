@@ -1,5 +1,4 @@
--- The sum with 2 (p - uv) is below 4p, and the difference modulo p.
-use mathlib.Core.Path.{_∙_}
+-- The sum with 2 (p - uv) stands for the difference.
 use native.Mathlib.Omega.{arith}
 use borrow.Author.Needs.{needs}
 use Rattle.ring.proofs.RangeLaw.{modulus-lt}
@@ -16,5 +15,4 @@ join-share-spec =
     (λ c. omega (arith, c .modulus .ensures))
     (λ c. omega (arith, c .modulus .ensures, modulus-lt (c .before .args .r)))
     (λ c. omega (arith, c .modulus .ensures, modulus-lt (c .before .args .r)))
-    (λ c κs. omega (arith, c .modulus .ensures))
-    (λ c. (c .reduce-sum .ensures .0 ∙ join-is _ _ _ _ (c .before .modulus .ensures) (c .before .before .pre .1 .1), c .reduce-sum .ensures .1)))
+    (λ c. join-is _ _ _ _ (c .modulus .ensures) (c .before .pre .1 .1)))

@@ -1,4 +1,4 @@
--- Products below 2p and a mask below 2p make a sum below 4p.
+-- Products below 5p and a mask below 2p make a sum below 7p.
 use borrow.Author.Needs.{needs}
 use mathlib.Core.Path.{_∙_}
 use native.Mathlib.Omega.{arith}

@@ -1,4 +1,4 @@
--- A number below the modulus, times a bit, is below it.
+-- A number times a bit is no more than the number.
 use borrow.Author.Needs.{needs}
 use Prim.Native.Nat.{_+_, _*_, _<_}
 use native.Mathlib.Omega.{arith}
@@ -9,10 +9,10 @@ use Rattle.gate.proofs.words.words_by_bit.Statement.{statement}
 use Rattle.gate.proofs.words.words_by_bit.Tie as tie
 
 -- x_1 and x_2 + x_0, times the bit
-one : (c : tie.After-struct-known) → c .before .before .args .x .s1 * c .before .before .args .b2 < modulusOf (c .before .before .args .r)
+one : (c : tie.After-struct-known) → c .before .before .args .x .s1 * c .before .before .args .b2 < 2 * modulusOf (c .before .before .args .r) + 2
 one c = bit-times-lt (c .before .before .pre .0 .one) (c .before .before .pre .1 .0)
 
-two : (c : tie.Start) → (c .args .x .s2 + c .args .x .s0) * c .args .b2 < modulusOf (c .args .r) + modulusOf (c .args .r)
+two : (c : tie.Start) → (c .args .x .s2 + c .args .x .s0) * c .args .b2 < 4 * modulusOf (c .args .r) + 4
 two c = bit-times-lt (omega (arith, c .pre .0)) (c .pre .1 .0)
 
 pub words-by-bit-spec : {M : Type 1} → statement M
@@ -21,9 +21,9 @@ words-by-bit-spec =
     (tie.spec
     (λ c κs. omega (arith, modulus-gt (c .args .r)))
     (λ c. omega (arith, one c, modulus-lt (c .before .before .args .r)))
-    (λ c κs. omega (arith, one c))
+    (λ c κs. omega (arith, one c, modulus-gt (c .before .before .args .r)))
     (λ c. omega (arith, modulus-lt (c .before .before .before .before .args .r)))
     (λ c. omega (arith, two (c .before .before .before .before), modulus-lt (c .before .before .before .before .args .r)))
-    (λ c κs. omega (arith, two (c .before .before .before .before)))
+    (λ c κs. omega (arith, two (c .before .before .before .before), modulus-gt (c .before .before .before .before .args .r)))
     (λ c.
     words-by-bit _ _ _ _ (c .before .before .before .before .masked .ensures) (c .before .before .masked2 .ensures) (c .masked3 .ensures)))

@@ -1,4 +1,4 @@
--- Four times p has few bits above bit e.
+-- Seven times p has few bits above bit e.
 use borrow.Author.Needs.{needs}
 use Prim.Native.Nat.{_^_, _≤_}
 use native.Mathlib.Nat.{le-refl, mul-le-mul}
@@ -12,8 +12,8 @@ fits : tie.Need-reduce-short-requires
 fits c κs =
     let r = c .before .before .args .self in
     let known = sized r (c .before .width .ensures) (c .modulus .ensures) in
-    let four : 4 ≤ 2 ^ c .before .width .result = pow-mono {i = 2} (omega (arith, known)) in
-    (known .is, ((omega (arith, known), known .most), (omega (arith, c .modulus .ensures, mul-le-mul (le-refl (c .modulus .result)) four), omega (arith, modulus-lt r))))
+    let eight : 8 ≤ 2 ^ c .before .width .result = pow-mono {i = 3} (omega (arith, known)) in
+    (known .is, ((omega (arith, known), known .most), (omega (arith, c .modulus .ensures, mul-le-mul (le-refl (c .modulus .result)) eight), omega (arith, modulus-lt r))))
 
 pub reduce-sum-spec : {M : Type 1} → statement M
 reduce-sum-spec =

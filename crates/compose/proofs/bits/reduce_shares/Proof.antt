@@ -1,0 +1,21 @@
+use borrow.Author.Needs.{needs}
+use Rattle.gate.proofs.PlaceLaw.{each}
+use Rattle.compose.proofs.bits.reduce_shares.Statement.{statement}
+use Rattle.compose.proofs.bits.reduce_shares.Tie as tie
+
+returns : tie.Need-returns
+returns c =
+    let one = c .before in
+    let zero = one .before in (
+      each _ (zero .reduce-sum .ensures .0) (one .reduce-sum2 .ensures .0) (c .reduce-sum3 .ensures .0),
+      record { zero = zero .reduce-sum .ensures .1; one = one .reduce-sum2 .ensures .1; two = c .reduce-sum3 .ensures .1 },
+    )
+
+pub reduce-shares-spec : {M : Type 1} → statement M
+reduce-shares-spec =
+    tie.close
+    (tie.spec
+    (λ c κs. search needs)
+    (λ c κs. search needs)
+    (λ c κs. search needs)
+    returns)
