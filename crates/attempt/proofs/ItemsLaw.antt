@@ -1,5 +1,5 @@
 -- Items out of range: one tape item by item, one list of moduli after another, and what none out of range says.
-use Prim.Native.Nat.{ℕ, zero, suc, _+_, _-_, _<_, _≤_}
+use Prim.Native.Nat.{ℕ, zero, suc, _+_, _*_, _-_, _<_, _≤_, _^_}
 use mathlib.Core.Bool.{Bool, false, true, or-assoc, or-false, _||_}
 use mathlib.Core.List.{List, [], _∷_, _++_}
 use mathlib.Core.Path.{_≡_, refl, ap, ap₂, sym, _∙_}
@@ -7,7 +7,7 @@ use native.Mathlib.Nat.{add-zero}
 use native.Mathlib.Numerals.{one-add}
 use native.Mathlib.Omega.{arith}
 use borrow.Author.Tests.{le-leb, leb-false, leb-true, lt-leb}
-use lib.Bits.{and-le-l, and-le-r, bitOr, or-add-and, or-lt}
+use lib.Bits.{and-le-l, and-le-r, bitOr, or-add-and, or-lt, or-shifted-r}
 use lib.Dec.{leb}
 use lib.ListN.{drop, getD, length, length-replicate, replicate}
 use lib.Seq.{drop-drop, getD-drop}
@@ -28,44 +28,53 @@ outside-next p n k items h =
     ∙ ap₂ (λ (x : ℕ) (l : List ℕ). leb p x || anyOutside (replicate (n - (k + 1)) p) l)
     (getD-drop k items 0 0 ∙ ap (λ (j : ℕ). getD items j 0) (add-zero k)) (drop-drop 1 k items)
 
--- an item out of range, one in range, and the end
-module _ (p n k : ℕ) (items : List ℕ) {b : Bool} (h : b ≡ anyOutside (replicate (n - k) p) (drop k items)) where
-  pub outside-found : k < n → p ≤ getD items k 0 → true ≡ b
-  outside-found below bad =
-      sym (h ∙ outside-next p n k items below ∙ ap (λ (q : Bool). q || anyOutside (replicate (n - (k + 1)) p) (drop (k + 1) items)) (le-leb _ _ bad))
-
-  pub outside-on : k < n → getD items k 0 < p → b ≡ anyOutside (replicate (n - (k + 1)) p) (drop (k + 1) items)
-  outside-on below good =
-      h ∙ outside-next p n k items below ∙ ap (λ (q : Bool). q || anyOutside (replicate (n - (k + 1)) p) (drop (k + 1) items)) (lt-leb _ _ good)
-
-  pub outside-end : n ≤ k → false ≡ b
-  unfolding anyOutside
-  outside-end past =
-      let none : n - k ≡ 0 = omega arith in
-      sym (h ∙ ap (λ (j : ℕ). anyOutside (replicate j p) (drop k items)) none)
-
--- two words have a bit above the lowest where one of them has
-pub either-wider : (a b : ℕ) → leb 2 (bitOr a b) ≡ leb 2 a || leb 2 b
-either-wider a b = go (leb 2 a) (leb 2 b) refl refl
+-- two words have a bit from j on where one of them has
+pub either-high : (j a b : ℕ) → leb (2 ^ j) (bitOr a b) ≡ leb (2 ^ j) a || leb (2 ^ j) b
+either-high j a b = go (leb (2 ^ j) a) (leb (2 ^ j) b) refl refl
   where
-    go : (p q : Bool) → leb 2 a ≡ p → leb 2 b ≡ q → leb 2 (bitOr a b) ≡ p || q
-    go true q ha hb = le-leb 2 (bitOr a b) (omega (arith, leb-true 2 a ha, or-add-and a b, and-le-r a b))
-    go false true ha hb = le-leb 2 (bitOr a b) (omega (arith, leb-true 2 b hb, or-add-and a b, and-le-l a b))
-    go false false ha hb = lt-leb 2 (bitOr a b) (or-lt 1 a b (leb-false 2 a ha) (leb-false 2 b hb))
+    go : (p q : Bool) → leb (2 ^ j) a ≡ p → leb (2 ^ j) b ≡ q → leb (2 ^ j) (bitOr a b) ≡ p || q
+    go true q ha hb = le-leb (2 ^ j) (bitOr a b) (omega (arith, leb-true (2 ^ j) a ha, or-add-and a b, and-le-r a b))
+    go false true ha hb = le-leb (2 ^ j) (bitOr a b) (omega (arith, leb-true (2 ^ j) b hb, or-add-and a b, and-le-l a b))
+    go false false ha hb = lt-leb (2 ^ j) (bitOr a b) (or-lt j a b (leb-false (2 ^ j) a ha) (leb-false (2 ^ j) b hb))
 
--- items that are no bits: the bits of the first k together, then one more, and the end
-module _ (n k all : ℕ) (items : List ℕ) {b : Bool} (h : b ≡ leb 2 all || anyOutside (replicate (n - k) 2) (drop k items)) where
-  pub wider-on : k < n → b ≡ leb 2 (bitOr all (getD items k 0)) || anyOutside (replicate (n - (k + 1)) 2) (drop (k + 1) items)
-  wider-on below =
-      h ∙ ap (λ (q : Bool). leb 2 all || q) (outside-next 2 n k items below)
-      ∙ sym (or-assoc (leb 2 all) (leb 2 (getD items k 0)) (anyOutside (replicate (n - (k + 1)) 2) (drop (k + 1) items)))
-      ∙ ap (λ (q : Bool). q || anyOutside (replicate (n - (k + 1)) 2) (drop (k + 1) items)) (sym (either-wider all (getD items k 0)))
+-- a word with its top bit set, less p, or that word: the top bit is there where the word is p or more
+module _ (w p : ℕ) (h : p ≤ 2 ^ 63) where
+  pub topped-le : p ≤ bitOr w (2 ^ 63)
+  topped-le = omega (arith, h, or-add-and w (2 ^ 63), and-le-l w (2 ^ 63))
 
-  pub wider-end : n ≤ k → leb 2 all ≡ b
+  below-top : w < 2 ^ 63 → leb (2 ^ 63) (bitOr w (2 ^ 63) - p) ≡ leb p w
+  below-top low = go (leb p w) refl
+    where
+      topped : bitOr w (2 ^ 63) ≡ 1 * 2 ^ 63 + w
+      topped = or-shifted-r 1 63 w low
+
+      go : (b : Bool) → leb p w ≡ b → leb (2 ^ 63) (bitOr w (2 ^ 63) - p) ≡ b
+      go true hw = le-leb (2 ^ 63) (bitOr w (2 ^ 63) - p) (omega (arith, topped, leb-true p w hw))
+      go false hw = lt-leb (2 ^ 63) (bitOr w (2 ^ 63) - p) (omega (arith, topped, leb-false p w hw))
+
+  pub beyond-high : leb (2 ^ 63) (bitOr w (bitOr w (2 ^ 63) - p)) ≡ leb p w
+  beyond-high = either-high 63 w (bitOr w (2 ^ 63) - p) ∙ go (leb (2 ^ 63) w) refl
+    where
+      go : (b : Bool) → leb (2 ^ 63) w ≡ b → b || leb (2 ^ 63) (bitOr w (2 ^ 63) - p) ≡ leb p w
+      go true hw = sym (le-leb p w (omega (arith, h, leb-true (2 ^ 63) w hw)))
+      go false hw = below-top (leb-false (2 ^ 63) w hw)
+
+-- the words of the first k items together have a bit from j on where one of these is out of range: one more item, and the end
+module _ (j p n k all : ℕ) (items : List ℕ) {b : Bool} (h : b ≡ leb (2 ^ j) all || anyOutside (replicate (n - k) p) (drop k items)) where
+  pub high-on : (x : ℕ) → leb (2 ^ j) x ≡ leb p (getD items k 0) → k < n
+      → b ≡ leb (2 ^ j) (bitOr all x) || anyOutside (replicate (n - (k + 1)) p) (drop (k + 1) items)
+  high-on x is below =
+      let rest : Bool = anyOutside (replicate (n - (k + 1)) p) (drop (k + 1) items) in
+      h ∙ ap (λ (q : Bool). leb (2 ^ j) all || q) (outside-next p n k items below)
+      ∙ sym (or-assoc (leb (2 ^ j) all) (leb p (getD items k 0)) rest)
+      ∙ ap (λ (q : Bool). (leb (2 ^ j) all || q) || rest) (sym is)
+      ∙ ap (λ (q : Bool). q || rest) (sym (either-high j all x))
+
+  pub high-end : n ≤ k → leb (2 ^ j) all ≡ b
   unfolding anyOutside
-  wider-end past =
+  high-end past =
       let none : n - k ≡ 0 = omega arith in
-      sym (h ∙ ap (λ (j : ℕ). leb 2 all || anyOutside (replicate j 2) (drop k items)) none ∙ or-false (leb 2 all))
+      sym (h ∙ ap (λ (i : ℕ). leb (2 ^ j) all || anyOutside (replicate i p) (drop k items)) none ∙ or-false (leb (2 ^ j) all))
 
 outside-append : (ms ns items : List ℕ) → anyOutside (ms ++ ns) items ≡ anyOutside ms items || anyOutside ns (drop (length ms) items)
 unfolding anyOutside

@@ -1,5 +1,5 @@
 -- What a task's gates take is what the orders on lent runs ask.
-use Prim.Native.Nat.{ℕ, _+_, _*_, _-_, _≤_}
+use Prim.Native.Nat.{ℕ, _+_, _*_, _-_, _≤_, _^_}
 use mathlib.Core.Bool.{Bool, false}
 use mathlib.Core.List.{List, _++_}
 use mathlib.Core.Path.{_≡_, ap, ap₂, subst, sym, _∙_}
@@ -7,7 +7,7 @@ use native.Mathlib.Omega.{arith}
 use lib.ListN.{drop, length, length-append, length-map, length-replicate, replicate}
 use Rattle.ring.specs.Rings.{modulusOf, widthOf}
 use Rattle.ring.specs.declared.rings.Ring.{Ring}
-use Rattle.ring.proofs.RangeLaw.{width-ge}
+use Rattle.ring.proofs.RangeLaw.{modulus-lt, width-ge}
 use Rattle.gate.specs.Places.{InRange, three}
 use Rattle.gate.specs.declared.sharing.Sharing.{Sharing}
 use Rattle.circuit.specs.Circuits.{gatesOf}
@@ -29,6 +29,17 @@ gates-cost {t} {k} cost =
     ∙ ap length (cost .moduli)
     ∙ length-append (replicate (k .bits) 2) (replicate (k .ring) (k .modulus))
     ∙ ap₂ _+_ (length-replicate (k .bits) 2) (length-replicate (k .ring) (k .modulus))
+
+-- its modulus leaves a word's top bit free
+pub cost-modulus : (t : Task) {k : Cost} → k ≡ costOf t → k .modulus ≤ 2 ^ 63
+cost-modulus t is = rw is (own t)
+  where
+    own : (t : Task) → costOf t .modulus ≤ 2 ^ 63
+    own (Multiply r x y) = omega (arith, modulus-lt r)
+    own (Decompose r a l) = omega (arith, modulus-lt r)
+    own (Convert e f a) = omega (arith, modulus-lt f)
+    own (Shift r a s) = omega (arith, modulus-lt r)
+    own (Compose f w l) = omega (arith, modulus-lt f)
 
 -- runs long enough, with no item out of range
 pub supplied : (t : Task) {k : Cost} {t₀ t₁ t₂ c₀ c₁ c₂ : List ℕ} {bad : Bool} → k ≡ costOf t

@@ -5,12 +5,18 @@ use borrow.Author.Needs.{needs}
 use Rattle.circuit.proofs.LentLaw.{long-on}
 use Rattle.order.proofs.CostLaw.{costs}
 use Rattle.attempt.proofs.AttemptLaw.{bad-tried, gates-tried}
-use Rattle.attempt.proofs.SupplyLaw.{supplied}
+use Rattle.attempt.proofs.SupplyLaw.{cost-modulus, supplied}
 use Rattle.attempt.proofs.attempts.run.Statement.{statement}
 use Rattle.attempt.proofs.attempts.run.Tie as tie
 
 abbrev entry : tie.After-bad-items → tie.Start
 entry c = c .before .before .before .before .before .before .before .before .before .before
+
+asked : tie.Need-bad-items-requires
+asked c κs =
+    let start = c .before .before .before .before .before .before .before .before .before in
+    let a = start .args in
+    (cost-modulus (a .t) (start .pre .1 .0), long-on (a .k .bits + a .k .ring) (a .masks-at) (start .pre .1 .1 .0))
 
 refusal : tie.Need-returns
 refusal c = λ m of seat.
@@ -51,7 +57,7 @@ run-spec =
     tie.close
     (tie.spec (λ c. search needs) (λ c. search needs) (λ c. search needs) (λ c. search needs) (λ c. search needs)
     (λ c. search needs) (λ c. search needs) (λ c. search needs) (λ c. search needs) (λ c. search needs) (λ c. search needs)
-    (λ c. search needs) (λ c κs. search needs) refusal (λ c. search needs) (λ c. search needs)
+    (λ c. search needs) asked refusal (λ c. search needs) (λ c. search needs)
     (λ c. search needs) (λ c. search needs) (λ c. search needs) (λ c. search needs) (λ c. search needs) (λ c. search needs)
     (λ c. search needs) (λ c. search needs) (λ c. search needs) (λ c. search needs) fits counted
     (λ c κs. search needs) (λ c. search needs) (λ c. search needs) (λ c. search needs) done)
