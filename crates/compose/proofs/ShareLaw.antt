@@ -47,16 +47,6 @@ settled n k p x q {m} {a} {z₀} {z₁} {z₂} pos known reduced e₀ e₁ e₂ 
     each (λ i. three z₀ z₁ z₂ i ≡ k * diff n (parts x i) (p * parts q i) % n)
     (rw (← same (x .s0) (q .s0)) e₀) (rw (← same (x .s1) (q .s1)) e₁) (rw (← same (x .s2) (q .s2)) e₂)
 
--- sum + weight × b, by place
-pub weighted : (m weight : ℕ) (sum b : Sharing) {y₀ y₁ y₂ z₀ z₁ z₂ : ℕ}
-    → y₀ ≡ weight * b .s0 % m → z₀ ≡ (sum .s0 + y₀) % m
-    → y₁ ≡ weight * b .s1 % m → z₁ ≡ (sum .s1 + y₁) % m
-    → y₂ ≡ weight * b .s2 % m → z₂ ≡ (sum .s2 + y₂) % m
-    → (i : Place) → three z₀ z₁ z₂ i ≡ (parts sum i + weight * parts b i) % m
-weighted m weight sum b {y₀} {y₁} {y₂} {z₀} {z₁} {z₂} p₀ e₀ p₁ e₁ p₂ e₂ =
-    each (λ i. three z₀ z₁ z₂ i ≡ (parts sum i + weight * parts b i) % m)
-    (rw (e₀, p₀, add-mod-mod)) (rw (e₁, p₁, add-mod-mod)) (rw (e₂, p₂, add-mod-mod))
-
 -- the two bits of q
 pub quotient-is : (r : ℕ) {carry low b : ℕ} → low ≡ bitOf r 0 → b ≡ bitOf r 1 → b < 2 → carry < 2 → low + 2 * bitXor b carry ≡ quotientWith r carry
 unfolding quotientWith

@@ -58,17 +58,17 @@ none-summed m from w T c =
     record { sums = each (λ i. tabled (λ j. summingStart (parts w j)) i .sum ≡ three 0 0 0 i) refl refl refl; channels = λ i. refl }
 
 -- one bit more
-pub more-summed : (m from k weight : ℕ) {w z z′ : Sharing} {c : Place → List ℕ} {t₀ t₁ t₂ d₀ d₁ d₂ e₀ e₁ e₂ : List ℕ}
+pub more-summed : (m from k weight : ℕ) {w : Sharing} {z z′ : Place → ℕ} {c : Place → List ℕ} {t₀ t₁ t₂ d₀ d₁ d₂ e₀ e₁ e₂ : List ℕ}
     → weight ≡ 2 ^ k % m
-    → Summed (composeGates wordBit m from k) (tabled (λ i. summingStart (parts w i))) (three t₀ t₁ t₂) c (parts z) (three d₀ d₁ d₂)
-    → ((s : Place → Summing ℕ) → Holds (parts w) (parts z) s → Summed (bitGates wordBit m (from + k) weight) s (partsFrom (2 * k) t₀ t₁ t₂) (partsFrom (2 * k) d₀ d₁ d₂) (parts z′) (three e₀ e₁ e₂))
-    → Summed (composeGates wordBit m from (k + 1)) (tabled (λ i. summingStart (parts w i))) (three t₀ t₁ t₂) c (parts z′) (putBack (2 * k) d₀ d₁ d₂ e₀ e₁ e₂)
+    → Summed (composeGates wordBit m from k) (tabled (λ i. summingStart (parts w i))) (three t₀ t₁ t₂) c z (three d₀ d₁ d₂)
+    → ((s : Place → Summing ℕ) → Holds (parts w) z s → Summed (bitGates wordBit m (from + k) weight) s (partsFrom (2 * k) t₀ t₁ t₂) (partsFrom (2 * k) d₀ d₁ d₂) z′ (three e₀ e₁ e₂))
+    → Summed (composeGates wordBit m from (k + 1)) (tabled (λ i. summingStart (parts w i))) (three t₀ t₁ t₂) c z′ (putBack (2 * k) d₀ d₁ d₂ e₀ e₁ e₂)
 unfolding composeGates
 more-summed m from k weight {w} {z} {z′} {c} {t₀} {t₁} {t₂} {d₀} {d₁} {d₂} {e₀} {e₁} {e₂} weighs a b =
     let start = tabled (λ i. summingStart (parts w i)) in
     let T : Place → List ℕ = three t₀ t₁ t₂ in
     let now : Place → Summing ℕ = ends (composeGates wordBit m from k) start T in
-    let kept : Holds (parts w) (parts z) now
+    let kept : Holds (parts w) z now
     = record {
       kept = λ i. compose-keeps wordBit m from k start T i ∙ each (λ j. start j .kept ≡ parts w j) refl refl refl i;
       sum = a .sums;

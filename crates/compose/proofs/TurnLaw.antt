@@ -2,6 +2,7 @@
 use Prim.Native.Nat.{ℕ, _+_, _*_, _-_, _%_, _<_, _≤_, _^_}
 use mathlib.Core.List.{List}
 use mathlib.Core.Path.{_≡_, ap, refl, sym, _∙_}
+use native.Mathlib.Nat.{mod-eq-of-lt}
 use native.Mathlib.Omega.{arith}
 use lib.ListN.{length}
 use lib.Pow.{pow-add}
@@ -122,17 +123,18 @@ doubled j k next weighs after-it =
     cong-trans after-it (cong-trans (cong-of-eq left) (cong-trans (cong-mul weighs (cong-refl 2)) (cong-of-eq right)))
 
 -- a power of two with the weight of bit k adds what the definition adds
-weighed : (m j k s b : ℕ) → Cong m (2 ^ j) (2 ^ k) → (s + 2 ^ j * b) % m ≡ (s + 2 ^ k % m * b) % m
-weighed m j k s b weighs =
-    cong-add (cong-refl s) (cong-mul (cong-trans weighs (cong-sym (cong-mod m (2 ^ k)))) (cong-refl b)) .same
+weighed : (m j k s b : ℕ) {z : ℕ} → Cong m (2 ^ j) (2 ^ k) → Cong m z (s + 2 ^ j * b) → z % m ≡ (s % m + 2 ^ k % m * b) % m
+weighed m j k s b weighs stands =
+    cong-trans stands
+    (cong-add (cong-sym (cong-mod m s)) (cong-mul (cong-trans weighs (cong-sym (cong-mod m (2 ^ k)))) (cong-refl b))) .same
 
 -- k bits of w are composed: from the runs t and c to the sum and the runs d
 pub record Reached (m from count : ℕ) (w : Sharing) (t₀ t₁ t₂ c₀ c₁ c₂ : List ℕ) (k j : ℕ) (sum : Sharing) (d₀ d₁ d₂ : List ℕ) : Type 0 where
   pub same : AsLong c₀ c₁ c₂ d₀ d₁ d₂
   pub most : k ≤ count
   pub weighs : Cong m (2 ^ j) (2 ^ k)
-  pub range : InRange m sum
-  pub summed : Summed (composeGates wordBit m from k) (tabled (λ i. summingStart (parts w i))) (three t₀ t₁ t₂) (three c₀ c₁ c₂) (parts sum) (three d₀ d₁ d₂)
+  pub range : InRange (m + m) sum
+  pub summed : Summed (composeGates wordBit m from k) (tabled (λ i. summingStart (parts w i))) (three t₀ t₁ t₂) (three c₀ c₁ c₂) (λ i. parts sum i % m) (three d₀ d₁ d₂)
 
 pub at-start : (m from count : ℕ) {w none : Sharing} {t₀ t₁ t₂ c₀ c₁ c₂ : List ℕ}
     → 1 < m → none ≡ zeros → Reached m from count w t₀ t₁ t₂ c₀ c₁ c₂ 0 0 none c₀ c₁ c₂
@@ -142,8 +144,17 @@ at-start m from count {w} {none} {t₀} {t₁} {t₂} {c₀} {c₁} {c₂} wide 
       most = omega arith;
       weighs = cong-refl 1;
       range = rw is (record { zero = omega arith; one = omega arith; two = omega arith });
-      summed = rw is (none-summed m from w (three t₀ t₁ t₂) (three c₀ c₁ c₂));
+      summed = record { sums = λ i. begun .sums i ∙ nothing i; channels = begun .channels };
     }
+  where
+    begun : Summed (composeGates wordBit m from 0) (tabled (λ i. summingStart (parts w i))) (three t₀ t₁ t₂) (three c₀ c₁ c₂) (three 0 0 0) (three c₀ c₁ c₂)
+    begun = none-summed m from w (three t₀ t₁ t₂) (three c₀ c₁ c₂)
+
+    zero-mod : 0 ≡ 0 % m
+    zero-mod = sym (mod-eq-of-lt (omega arith))
+
+    nothing : (i : Place) → three 0 0 0 i ≡ parts none i % m
+    nothing = rw is (each (λ i. three 0 0 0 i ≡ parts zeros i % m) zero-mod zero-mod zero-mod)
 
 module _ {m from count : ℕ} {w : Sharing} {t₀ t₁ t₂ c₀ c₁ c₂ : List ℕ} {k j : ℕ} {sum : Sharing} {d₀ d₁ d₂ : List ℕ}
     (reached : Reached m from count w t₀ t₁ t₂ c₀ c₁ c₂ k j sum d₀ d₁ d₂) where
@@ -151,12 +162,12 @@ module _ {m from count : ℕ} {w : Sharing} {t₀ t₁ t₂ c₀ c₁ c₂ : Lis
   pub went-on : {next : ℕ} {b z : Sharing} {e₀ e₁ e₂ : List ℕ}
       → k < count
       → Cong m (2 ^ next) (2 ^ (j + 1))
-      → InRange m z
+      → InRange (m + m) z
       → length e₀ ≡ length (partFrom (2 * k) d₀)
       → length e₁ ≡ length (partFrom (2 * k) d₁)
       → length e₂ ≡ length (partFrom (2 * k) d₂)
       → JoinsBit m (from + k) (parts w) (partsFrom (2 * k) t₀ t₁ t₂) (partsFrom (2 * k) d₀ d₁ d₂) (parts b) (three e₀ e₁ e₂)
-      → ((i : Place) → parts z i ≡ (parts sum i + 2 ^ j * parts b i) % m)
+      → ((i : Place) → Cong m (parts z i) (parts sum i + 2 ^ j * parts b i))
       → Reached m from count w t₀ t₁ t₂ c₀ c₁ c₂ (k + 1) next z
       (putPart (2 * k) d₀ e₀) (putPart (2 * k) d₁ e₁) (putPart (2 * k) d₂ e₂)
   went-on {next} {b} {z} {e₀} {e₁} {e₂} more twice range l₀ l₁ l₂ bit total =
@@ -169,14 +180,17 @@ module _ {m from count : ℕ} {w : Sharing} {t₀ t₁ t₂ c₀ c₁ c₂ : Lis
         most = omega arith;
         weighs = doubled j k next (reached .weighs) twice;
         range = range;
-        summed = more-summed m from k (2 ^ k % m) refl (reached .summed) (λ s holds. bit .adds (2 ^ k % m) (parts sum) (parts z) s holds
-            (λ i. total i ∙ weighed m j k (parts sum i) (parts b i) (reached .weighs)));
+        summed = more-summed m from k (2 ^ k % m) refl (reached .summed)
+            (λ s holds. bit .adds (2 ^ k % m) (λ i. parts sum i % m) (λ i. parts z i % m) s holds
+            (λ i. weighed m j k (parts sum i) (parts b i) (reached .weighs) (total i)));
       }
 
-  -- after the last
-  pub all-summed : count ≤ k
-      → Summed (composeGates wordBit m from count) (tabled (λ i. summingStart (parts w i))) (three t₀ t₁ t₂) (three c₀ c₁ c₂) (parts sum) (three d₀ d₁ d₂)
-  all-summed done = let e : count ≡ k = omega (arith, reached .most) in rw e (reached .summed)
+  -- after the last, where the sums are reduced
+  pub all-summed : {z : Sharing} → count ≤ k → ((i : Place) → parts z i ≡ parts sum i % m)
+      → Summed (composeGates wordBit m from count) (tabled (λ i. summingStart (parts w i))) (three t₀ t₁ t₂) (three c₀ c₁ c₂) (parts z) (three d₀ d₁ d₂)
+  all-summed done is =
+      let e : count ≡ k = omega (arith, reached .most) in
+      rw e (record { sums = λ i. reached .summed .sums i ∙ sym (is i); channels = reached .summed .channels })
 
 -- what one turn needs of the runs
 pub record Turn (m from k : ℕ) (t₀ t₁ t₂ d₀ d₁ d₂ : List ℕ) : Type 0 where

@@ -40,18 +40,6 @@ fn join_shares(r: Ring, u: Sharing, v: Sharing, z: Sharing) -> Sharing
     Sharing { s0, s1, s2 }
 }
 
-// Shares that stand for h, reduced.
-fn reduce_shares(r: Ring, h: Sharing) -> Sharing
-    requires { ⌜ InRange (7 * modulusOf r) h ⌝ }
-    ensures is { λ b. ⌜ ((i : Place) → parts b i ≡ parts h i % modulusOf r) ⌝ }
-    ensures below { λ b. ⌜ InRange (modulusOf r) b ⌝ }
-{
-    let s0 = r.reduce_sum(h.s0);
-    let s1 = r.reduce_sum(h.s1);
-    let s2 = r.reduce_sum(h.s2);
-    Sharing { s0, s1, s2 }
-}
-
 // Sub-share 0 of bit j of w with sub-share 1; what they give is not reduced.
 fn join_first(
     r: Ring,
@@ -84,7 +72,7 @@ fn join_first(
     join_shares(r, u, v, z)
 }
 
-// What these give with sub-share 2.
+// What these give with sub-share 2, not reduced.
 fn join_last(
     r: Ring,
     w: Sharing,
@@ -100,7 +88,7 @@ fn join_last(
     requires items { ⌜ InRange (modulusOf r) t ⌝ }
     requires room { ⌜ Long 1 (now c0) (now c1) (now c2) ⌝ }
     ensures is { λ h. ⌜ Joins (modulusOf r) (parts half) (three 0 0 (bitOf (w .s2) j)) (parts t) (three (now (c0 .entry)) (now (c1 .entry)) (now (c2 .entry))) h (three (now (c0 .exit)) (now (c1 .exit)) (now (c2 .exit))) ⌝ }
-    ensures below { λ h. ⌜ InRange (modulusOf r) h ⌝ }
+    ensures below { λ h. ⌜ InRange (4 * modulusOf r + 4) h ⌝ }
 {
     let b2 = bit(w.s2, j);
     let z = ring_gate_by_bit(r, half, b2, t, c0, c1, c2);
@@ -109,10 +97,10 @@ fn join_last(
         s1: 0,
         s2: b2,
     };
-    reduce_shares(r, join_shares(r, half, v, z))
+    join_shares(r, half, v, z)
 }
 
-// The ring shares of bit j of w: sub-share 0 with 1, then with 2.
+// The ring shares of bit j of w, not reduced: sub-share 0 with 1, then with 2.
 fn join_bit(
     r: Ring,
     w: Sharing,
@@ -129,7 +117,7 @@ fn join_bit(
     requires items { ⌜ ItemsBelow (modulusOf r) 2 (now m0) (now m1) (now m2) ⌝ }
     requires room { ⌜ Long 2 (now c0) (now c1) (now c2) ⌝ }
     ensures is { λ b. ⌜ JoinsBit (modulusOf r) j (parts w) (three (now (m0 .entry)) (now (m1 .entry)) (now (m2 .entry))) (three (now (c0 .entry)) (now (c1 .entry)) (now (c2 .entry))) (parts b) (three (now (c0 .exit)) (now (c1 .exit)) (now (c2 .exit))) ⌝ }
-    ensures below { λ b. ⌜ InRange (modulusOf r) b ⌝ }
+    ensures below { λ b. ⌜ InRange (4 * modulusOf r + 4) b ⌝ }
 {
     let t0 = items_at(m0, m1, m2, 0);
     let half = join_first(r, w, j, t0, c0, c1, c2);
@@ -137,17 +125,17 @@ fn join_bit(
     join_last(r, w, j, half, t1, &mut c0[1..], &mut c1[1..], &mut c2[1..])
 }
 
-// sum + 2^j × b.
+// sum + 2^j × b, not reduced.
 fn add_weighted(r: Ring, sum: Sharing, j: u64, b: Sharing) -> Sharing
-    requires sum { ⌜ InRange (modulusOf r) sum ⌝ }
+    requires sum { ⌜ InRange (modulusOf r + modulusOf r) sum ⌝ }
     requires weight { ⌜ j < widthOf r ⌝ }
-    requires bit { ⌜ InRange (modulusOf r) b ⌝ }
-    ensures is { λ z. ⌜ ((i : Place) → parts z i ≡ (parts sum i + 2 ^ j * parts b i) % modulusOf r) ⌝ }
-    ensures below { λ z. ⌜ InRange (modulusOf r) z ⌝ }
+    requires bit { ⌜ InRange (4 * modulusOf r + 4) b ⌝ }
+    ensures is { λ z. ⌜ ((i : Place) → Cong (modulusOf r) (parts z i) (parts sum i + 2 ^ j * parts b i)) ⌝ }
+    ensures below { λ z. ⌜ InRange (modulusOf r + modulusOf r) z ⌝ }
 {
-    let s0 = r.add(sum.s0, r.turn(j, b.s0));
-    let s1 = r.add(sum.s1, r.turn(j, b.s1));
-    let s2 = r.add(sum.s2, r.turn(j, b.s2));
+    let s0 = r.add_turned(j, b.s0, sum.s0);
+    let s1 = r.add_turned(j, b.s1, sum.s1);
+    let s2 = r.add_turned(j, b.s2, sum.s2);
     Sharing { s0, s1, s2 }
 }
 
@@ -161,6 +149,18 @@ fn next_power(r: Ring, j: u64) -> u64
         return 0;
     }
     j + 1
+}
+
+// The sums, reduced.
+fn reduce_sums(r: Ring, sum: Sharing) -> Sharing
+    requires { ⌜ InRange (modulusOf r + modulusOf r) sum ⌝ }
+    ensures is { λ z. ⌜ ((i : Place) → parts z i ≡ parts sum i % modulusOf r) ⌝ }
+    ensures below { λ z. ⌜ InRange (modulusOf r) z ⌝ }
+{
+    let s0 = r.reduce_sum(sum.s0);
+    let s1 = r.reduce_sum(sum.s1);
+    let s2 = r.reduce_sum(sum.s2);
+    Sharing { s0, s1, s2 }
 }
 
 // Bits from, from + 1, .. of w, count of them, with weights 1, 2, 4, .. modulo p.
@@ -201,7 +201,7 @@ pub fn compose_bits(
         sum = add_weighted(r, sum, power, b);
         power = next_power(r, power);
     }
-    sum
+    reduce_sums(r, sum)
 }
 
 // Order 8: all l bits of w.

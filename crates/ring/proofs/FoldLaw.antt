@@ -6,9 +6,7 @@ use native.Mathlib.Nat.{
   add-mul-mod-self-left,
   div-add-mod',
   div-lt-iff-lt-mul,
-  div-mul-le-self,
   eq-zero-or-pos,
-  le-div-iff-mul-le,
   le-refl,
   mod-eq-of-lt,
   mod-eq-sub-mod,
@@ -21,8 +19,8 @@ use lib.Bits.{bitAnd}
 use lib.Pow.{pow-pos, pow-mono}
 use Rattle.ring.specs.Modular.{Cong}
 use Rattle.ring.specs.Rings.{modulus}
-use Rattle.ring.proofs.CongLaw.{cong-add, cong-of-eq, cong-refl, cong-sym, cong-trans}
-use Rattle.ring.proofs.Theorems.{folds, modulus-suc}
+use Rattle.ring.proofs.CongLaw.{cong-of-eq, cong-sym, cong-trans}
+use Rattle.ring.proofs.Theorems.{div-pow-le, folds, modulus-suc}
 use Rattle.ring.proofs.WordLaw.{low-bits}
 
 -- folding: what is above bit e is added to what is below it
@@ -36,10 +34,8 @@ fold-cong e s = cong-trans (cong-sym (folds e (s / 2 ^ e) (s % 2 ^ e))) (cong-of
 pub fold-same : (e : ℕ) {p : ℕ} (s : ℕ) → p ≡ modulus e → fold e s % p ≡ s % p
 fold-same e s h = rw h (fold-cong e s .same)
 
-pub folded-sum : (e p cols n s : ℕ) {f : ℕ} → p ≡ modulus e → f ≡ fold e cols → Cong p cols n → (f + s) % p ≡ (n + s) % p
-folded-sum e p cols n s {f} h is products =
-    let kept : Cong p f n = record { same = ap (λ (i : ℕ). i % p) is ∙ fold-same e cols h ∙ products .same } in
-    cong-add kept (cong-refl s) .same
+pub folded-near : (e p cols n : ℕ) {f : ℕ} → p ≡ modulus e → f ≡ fold e cols → Cong p cols n → Cong p f n
+folded-near e p cols n h is stands = record { same = ap (λ (i : ℕ). i % p) is ∙ fold-same e cols h ∙ stands .same }
 
 -- and never adds
 pub fold-le : (e s : ℕ) → fold e s ≤ s
@@ -50,11 +46,6 @@ pub fold-lt : (e p s : ℕ) → p ≡ modulus e → s < p * 2 ^ e → fold e s <
 fold-lt e p s h room =
     let top : s / 2 ^ e < p = div-lt-iff-lt-mul (pow-pos e) .1 room in
     omega (arith, mod-lt s (pow-pos e), modulus-suc e)
-
--- a wider shift leaves less
-pub div-pow-le : {i e : ℕ} (s : ℕ) → i ≤ e → s / 2 ^ e ≤ s / 2 ^ i
-div-pow-le {i} {e} s wide =
-    le-div-iff-mul-le (pow-pos i) .1 (omega (arith, mul-le-mul (le-refl (s / 2 ^ e)) (pow-mono wide), div-mul-le-self s (2 ^ e)))
 
 -- any word, where e is 13 or more: what is left above p shrinks by 13 bits
 fold-shrinks : (e p s : ℕ) → p ≡ modulus e → 13 ≤ e → fold e s ≤ s / 2 ^ 13 + p

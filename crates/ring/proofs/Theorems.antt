@@ -2,7 +2,17 @@
 use Prim.Native.Nat.{ℕ, _+_, _*_, _-_, _/_, _%_, _<_, _≤_, _^_}
 use mathlib.Core.Path.{_≡_, sym, _∙_, ap}
 use mathlib.Core.Logic.{⊎-elim}
-use native.Mathlib.Nat.{div-add-mod', mod-lt, div-lt-iff-lt-mul, mod-eq-of-lt, eq-or-lt-of-le, le-refl, mul-le-mul}
+use native.Mathlib.Nat.{
+  div-add-mod',
+  div-lt-iff-lt-mul,
+  div-mul-le-self,
+  eq-or-lt-of-le,
+  le-div-iff-mul-le,
+  le-refl,
+  mod-eq-of-lt,
+  mod-lt,
+  mul-le-mul,
+}
 use native.Mathlib.Omega.{arith}
 use lib.Pow.{pow-add, pow-pos, pow-mono}
 use Rattle.ring.specs.Modular.{Cong}
@@ -34,6 +44,16 @@ folds e high low =
     let e′ : high * 2 ^ e + low ≡ high + low + modulus e * high = omega arith in
     cong-trans (cong-of-eq e′) (cong-multiple (modulus e) (high + low) high)
 
+split-power : (e k : ℕ) → k ≤ e → 2 ^ e ≡ 2 ^ (e - k) * 2 ^ k
+split-power e k h =
+    let split : (e - k) + k ≡ e = omega arith in
+    ap (λ (n : ℕ). 2 ^ n) (sym split) ∙ pow-add 2 (e - k) k
+
+-- a wider shift leaves less
+pub div-pow-le : {i e : ℕ} (s : ℕ) → i ≤ e → s / 2 ^ e ≤ s / 2 ^ i
+div-pow-le {i} {e} s wide =
+    le-div-iff-mul-le (pow-pos i) .1 (omega (arith, mul-le-mul (le-refl (s / 2 ^ e)) (pow-mono wide), div-mul-le-self s (2 ^ e)))
+
 -- a turned word is below the modulus unless all its bits are ones: Q is 2^(e-k), K is 2^k
 turn-below : (Q K high low : ℕ) → low < Q → high < K → high * Q + low + 1 < Q * K → low * K + high + 1 < Q * K
 turn-below Q K high low small top below =
@@ -45,22 +65,39 @@ turn-below Q K high low small top below =
     (λ (l : low + 1 < Q). omega (arith, mul-le-mul l (le-refl K)))
     (eq-or-lt-of-le {n = low + 1} {m = Q} (omega arith))
 
+-- what a turn stands for, of any number
+pub turned-cong : (e k a : ℕ) → k ≤ e → Cong (modulus e) (turned e k a) (2 ^ k * a)
+unfolding turned
+turned-cong e k a h =
+    let Q = 2 ^ (e - k) in
+    let K = 2 ^ k in
+    let whole : a / Q * Q + a % Q ≡ a = div-add-mod' a Q in
+    let moved : a / Q * 2 ^ e + a % Q * K ≡ K * a
+    = omega (arith, ap (λ (n : ℕ). a / Q * n) (split-power e k h), ap (λ (n : ℕ). n * K) whole) in
+    let order : a % Q * K + a / Q ≡ a / Q + a % Q * K = omega arith in
+    cong-trans (cong-of-eq order) (cong-trans (cong-sym (folds e (a / Q) (a % Q * K))) (cong-of-eq moved))
+
 pub turns : Turns
 unfolding turned
 turns e k a h below =
     let Q = 2 ^ (e - k) in
     let K = 2 ^ k in
-    let split : (e - k) + k ≡ e = omega arith in
-    let powers : 2 ^ e ≡ Q * K = ap (λ (n : ℕ). 2 ^ n) (sym split) ∙ pow-add 2 (e - k) k in
+    let powers : 2 ^ e ≡ Q * K = split-power e k h in
     let whole : a / Q * Q + a % Q ≡ a = div-add-mod' a Q in
     let top : modulus e + 1 ≡ 2 ^ e = modulus-suc e in
     let small : a % Q < Q = mod-lt a (pow-pos (e - k)) in
     let high : a / Q < K = div-lt-iff-lt-mul (pow-pos (e - k)) .1 (omega arith) in
     let fits : a % Q * K + a / Q < modulus e = omega (arith, turn-below Q K (a / Q) (a % Q) small high (omega arith)) in
-    let moved : a / Q * 2 ^ e + a % Q * K ≡ K * a = omega (arith, ap (λ (n : ℕ). a / Q * n) powers, ap (λ (n : ℕ). n * K) whole) in
-    let order : a % Q * K + a / Q ≡ a / Q + a % Q * K = omega arith in
-    cong-below fits
-    (cong-trans (cong-of-eq order) (cong-trans (cong-sym (folds e (a / Q) (a % Q * K))) (cong-of-eq moved)))
+    cong-below fits (turned-cong e k a h)
+
+-- a turn of a number adds at most its half to p
+pub turned-le : (e k a : ℕ) → k < e → turned e k a ≤ modulus e + a / 2
+unfolding turned
+turned-le e k a h =
+    let rest : a % 2 ^ (e - k) + 1 ≤ 2 ^ (e - k) = omega (arith, mod-lt a (pow-pos (e - k))) in
+    let low : (a % 2 ^ (e - k) + 1) * 2 ^ k ≤ 2 ^ (e - k) * 2 ^ k = mul-le-mul rest (le-refl (2 ^ k)) in
+    let high : a / 2 ^ (e - k) ≤ a / 2 ^ 1 = div-pow-le {i = 1} a (omega arith) in
+    omega (arith, low, high, split-power e k (omega arith), modulus-suc e, pow-pos k)
 
 pub four-times : FourTimes
 four-times e a = turns e 2 a

@@ -1,9 +1,10 @@
 // Sums, differences, products, remainders and four times, in a ring.
 ghost use mathlib.Core.Path.{_≡_};
 ghost use Prim.Native.Nat.{_+_, _*_, _%_, _<_, _≤_, _^_};
-ghost use Rattle.ring.specs.Modular.{diff};
+ghost use Rattle.ring.specs.Modular.{Cong, diff};
 ghost use Rattle.ring.specs.Rings.{modulusOf, widthOf};
 use crate::modular::add_mod;
+use crate::modular::add_turned;
 use crate::modular::mul_mod;
 use crate::modular::reduce_short;
 use crate::modular::reduce_word;
@@ -67,6 +68,17 @@ impl Ring {
         ensures below { λ r. ⌜ r < modulusOf self ⌝ }
     {
         turn_mod(self.width(), self.modulus(), k, a)
+    }
+
+    // s + 2^k × a modulo p, not reduced, of numbers that need not be.
+    pub fn add_turned(self, k: u64, a: u64, s: u64) -> u64
+        requires places { ⌜ k < widthOf self ⌝ }
+        requires number { ⌜ a < 5 * modulusOf self ⌝ }
+        requires sum { ⌜ s < modulusOf self + modulusOf self ⌝ }
+        ensures is { λ r. ⌜ Cong (modulusOf self) r (s + 2 ^ k * a) ⌝ }
+        ensures below { λ r. ⌜ r < modulusOf self + modulusOf self ⌝ }
+    {
+        add_turned(self.width(), self.modulus(), k, a, s)
     }
 
     // 4 a modulo p: the e bits of a, turned left by two.

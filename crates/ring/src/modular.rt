@@ -3,7 +3,7 @@
 ghost use mathlib.Core.Path.{_≡_};
 ghost use Prim.Native.Nat.{_+_, _*_, _/_, _%_, _<_, _≤_, _^_};
 ghost use Rattle.ring.specs.Modular.{Cong, diff};
-ghost use Rattle.ring.specs.Rings.{modulus};
+ghost use Rattle.ring.specs.Rings.{modulus, turned};
 
 // a + b modulo p.
 pub fn add_mod(e: u64, p: u64, a: u64, b: u64) -> u64
@@ -85,6 +85,30 @@ pub fn turn_mod(e: u64, p: u64, k: u64, a: u64) -> u64
     requires number { ⌜ a < p ⌝ }
     ensures is { λ r. ⌜ r ≡ 2 ^ k * a % p ⌝ }
     ensures below { λ r. ⌜ r < p ⌝ }
+{
+    turn_word(e, p, k, a)
+}
+
+// s + 2^k × a modulo p, not reduced, of numbers that need not be.
+pub fn add_turned(e: u64, p: u64, k: u64, a: u64, s: u64) -> u64
+    requires modulus { ⌜ p ≡ modulus e ⌝ }
+    requires width { ⌜ (13 ≤ e) × (e ≤ 61) ⌝ }
+    requires places { ⌜ k < e ⌝ }
+    requires number { ⌜ a < 5 * p ⌝ }
+    requires sum { ⌜ s < p + p ⌝ }
+    ensures is { λ r. ⌜ Cong p r (s + 2 ^ k * a) ⌝ }
+    ensures below { λ r. ⌜ r < p + p ⌝ }
+{
+    fold(e, p, s + turn_word(e, p, k, a))
+}
+
+// The low e - k bits of a move up by k, and what is above them comes in below.
+fn turn_word(e: u64, p: u64, k: u64, a: u64) -> u64
+    requires modulus { ⌜ p ≡ modulus e ⌝ }
+    requires width { ⌜ e < 64 ⌝ }
+    requires places { ⌜ k ≤ e ⌝ }
+    requires room { ⌜ turned e k a < 2 ^ 64 ⌝ }
+    ensures { λ r. ⌜ r ≡ turned e k a ⌝ }
 {
     ((a & (p >> k)) << k) + (a >> (e - k))
 }

@@ -1,25 +1,24 @@
 -- Each place adds its own share.
+use native.Mathlib.Omega.{arith}
 use borrow.Author.Needs.{needs}
-use Rattle.compose.proofs.ShareLaw.{weighted}
+use Rattle.ring.proofs.RangeLaw.{modulus-gt}
+use Rattle.gate.proofs.PlaceLaw.{each}
 use Rattle.compose.proofs.bits.add_weighted.Statement.{statement}
 use Rattle.compose.proofs.bits.add_weighted.Tie as tie
 
 returns : tie.Need-returns
 returns c =
-    let first = c .before .before .before .before in
-    let second = c .before .before in (
-      weighted _ _ _ _ (first .before .turn .ensures .0) (first .add .ensures .0) (second .before .turn2 .ensures .0) (second .add2 .ensures .0) (c .before .turn3 .ensures .0) (c .add3 .ensures .0),
-      record { zero = first .add .ensures .1; one = second .add2 .ensures .1; two = c .add3 .ensures .1 },
+    let one = c .before in
+    let zero = one .before in (
+      each _ (zero .add-turned .ensures .0) (one .add-turned2 .ensures .0) (c .add-turned3 .ensures .0),
+      record { zero = zero .add-turned .ensures .1; one = one .add-turned2 .ensures .1; two = c .add-turned3 .ensures .1 },
     )
 
 pub add-weighted-spec : {M : Type 1} → statement M
 add-weighted-spec =
     tie.close
     (tie.spec
-    (λ c κs. search needs)
-    (λ c κs. search needs)
-    (λ c κs. search needs)
-    (λ c κs. search needs)
-    (λ c κs. search needs)
-    (λ c κs. search needs)
+    (λ c κs. omega (arith, modulus-gt (c .args .r)))
+    (λ c κs. omega (arith, modulus-gt (c .before .args .r)))
+    (λ c κs. omega (arith, modulus-gt (c .before .before .args .r)))
     returns)

@@ -55,7 +55,9 @@ again c =
     )
 
 returns : tie.Need-returns Inv-loop μ-loop
-returns c = (all-summed (c .before .loop .inv .0) (c .loop-test .left), c .before .loop .inv .0 .range)
+returns c =
+    let after = c .before in
+    (all-summed (after .before .loop .inv .0) (after .loop-test .left) (c .reduce-sums .ensures .0), c .reduce-sums .ensures .1)
 
 pub compose-bits-spec : {M : Type 1} → statement M
 compose-bits-spec =
@@ -71,4 +73,4 @@ compose-bits-spec =
     bit-fits sum-fits (λ c κs. search needs)
     (λ c. omega (arith, turn (c .before .before .before .before .before .before .before .before .before .before .before .before .before .before .before)))
     (λ c. omega (arith, c .before .before .before .before .before .before .before .before .before .before .before .before .before .before .before .loop-test .taken))
-    again (λ c. search needs) (λ c. search needs) (λ c. search needs) returns)
+    again (λ c κs. c .before .loop .inv .0 .range) (λ c. search needs) (λ c. search needs) (λ c. search needs) returns)

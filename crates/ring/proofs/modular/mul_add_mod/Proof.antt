@@ -5,7 +5,8 @@ use mathlib.Core.Path.{_∙_}
 use native.Mathlib.Nat.{mul-le-mul, le-refl}
 use native.Mathlib.Omega.{arith}
 use lib.Pow.{pow-mono}
-use Rattle.ring.proofs.FoldLaw.{fold-lt, folded-sum}
+use Rattle.ring.proofs.CongLaw.{cong-add, cong-refl}
+use Rattle.ring.proofs.FoldLaw.{fold-lt, folded-near}
 use Rattle.ring.proofs.Theorems.{modulus-suc}
 use Rattle.ring.proofs.modular.mul_add_mod.Statement.{statement}
 use Rattle.ring.proofs.modular.mul_add_mod.Tie as tie
@@ -29,11 +30,9 @@ returns : tie.Need-returns
 returns c =
     let start = c .before .before .before in
     let a = start .args in
-    let products = c .before .before .columns in (
-      c .reduce-short .ensures .0
-          ∙ folded-sum _ _ (products .result) (a .a * a .b + a .c * a .d) (a .s) (start .pre .0) (c .before .fold .ensures) (products .ensures .0),
-      c .reduce-short .ensures .1,
-    )
+    let products = c .before .before .columns in
+    let near = folded-near _ _ (products .result) (a .a * a .b + a .c * a .d) (start .pre .0) (c .before .fold .ensures) (products .ensures .0) in
+    (c .reduce-short .ensures .0 ∙ cong-add near (cong-refl (a .s)) .same, c .reduce-short .ensures .1)
 
 pub mul-add-mod-spec : {M : Type 1} → statement M
 mul-add-mod-spec =

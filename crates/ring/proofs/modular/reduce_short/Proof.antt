@@ -6,8 +6,8 @@ use native.Mathlib.Nat.{mod-lt}
 use native.Mathlib.Omega.{arith}
 use lib.Bits.{bitAnd}
 use lib.Pow.{pow-mono}
-use Rattle.ring.proofs.FoldLaw.{div-pow-le, fold-lt, passes, passes-once, reduced-short}
-use Rattle.ring.proofs.Theorems.{modulus-suc}
+use Rattle.ring.proofs.FoldLaw.{fold-lt, passes, passes-once, reduced-short}
+use Rattle.ring.proofs.Theorems.{div-pow-le, modulus-suc}
 use Rattle.ring.proofs.modular.reduce_short.Statement.{statement}
 use Rattle.ring.proofs.modular.reduce_short.Tie as tie
 

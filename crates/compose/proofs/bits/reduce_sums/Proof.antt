@@ -1,7 +1,7 @@
 use borrow.Author.Needs.{needs}
 use Rattle.gate.proofs.PlaceLaw.{each}
-use Rattle.compose.proofs.bits.reduce_shares.Statement.{statement}
-use Rattle.compose.proofs.bits.reduce_shares.Tie as tie
+use Rattle.compose.proofs.bits.reduce_sums.Statement.{statement}
+use Rattle.compose.proofs.bits.reduce_sums.Tie as tie
 
 returns : tie.Need-returns
 returns c =
@@ -11,8 +11,8 @@ returns c =
       record { zero = zero .reduce-sum .ensures .1; one = one .reduce-sum2 .ensures .1; two = c .reduce-sum3 .ensures .1 },
     )
 
-pub reduce-shares-spec : {M : Type 1} → statement M
-reduce-shares-spec =
+pub reduce-sums-spec : {M : Type 1} → statement M
+reduce-sums-spec =
     tie.close
     (tie.spec
     (λ c κs. search needs)
