@@ -12,7 +12,7 @@ use order::Cost;
 // The top bit of a word.
 const TOP: u64 = 9_223_372_036_854_775_808;
 
-// A word that has the top bit where w is p or more: w itself has it, or w with that bit set keeps it when p is taken away.
+// A word that has the top bit just where w is p or more: w has it, or w with that bit set keeps it when p is taken away.
 fn beyond(p: u64, w: u64) -> u64
     requires { ⌜ p ≤ 2 ^ 63 ⌝ }
     ensures { λ r. ⌜ leb (2 ^ 63) r ≡ leb p w ⌝ }
@@ -20,7 +20,7 @@ fn beyond(p: u64, w: u64) -> u64
     w | ((w | TOP) - p)
 }
 
-// The same of the first n items together, with no test of an item: time tells nothing of them.
+// The same of the first n items together. No item is tested by itself, so time does not tell which is out of range.
 fn any_beyond(p: u64, n: u64, items: &[u64]) -> u64
     requires modulus { ⌜ p ≤ 2 ^ 63 ⌝ }
     requires long { ⌜ n ≤ length (now items) ⌝ }
