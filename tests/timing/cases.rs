@@ -1,0 +1,157 @@
+//! Cases: a call with all that is public about it, and which of its words are secret.
+
+use crate::format::{PREPARE, RUNS, STEP};
+use crate::words::Word::{self, Any, Below, Public};
+use jobs::draw::Draw;
+use jobs::orders::{needs, Needs};
+use reference::layout::{read_order, read_record, ANSWER_WORDS};
+use reference::record::LIMIT;
+use reference::ring::Ring;
+use std::ops::Range;
+
+pub const ORDER: usize = 0;
+pub const RECORD: usize = 1;
+pub const MASKS: Range<usize> = 2..5;
+pub const DEALER: usize = 5;
+pub const CHANNELS: Range<usize> = 6..9;
+pub const ANSWER: usize = 9;
+
+/// Words given in front of a position and behind what the order takes.
+const MARGIN: usize = 4;
+
+#[derive(Clone)]
+pub struct Run {
+    pub lent: usize,
+    /// Where the words start that a round gives; those around keep what earlier rounds left.
+    pub from: usize,
+    pub words: Vec<Word>,
+}
+
+impl Run {
+    pub fn whole(words: Vec<Word>) -> Run {
+        let (lent, from) = (words.len(), 0);
+        Run { lent, from, words }
+    }
+}
+
+#[derive(Clone)]
+pub struct Case {
+    pub name: String,
+    /// STEP, or PREPARE with its code.
+    pub call: u64,
+    pub code: u64,
+    pub runs: [Run; RUNS],
+    /// The refusal that it is meant to meet, or 0.
+    pub meant: u64,
+}
+
+/// Where an order stands on tapes and channels.
+#[derive(Clone, Copy, Debug)]
+pub enum At {
+    First,
+    Later,
+    /// The last word that 01 allows is taken.
+    End,
+}
+
+#[derive(Clone, Copy)]
+pub enum Register {
+    Empty,
+    Number(Ring),
+    Bits(u64),
+}
+
+impl Register {
+    fn words(self) -> [Word; 5] {
+        let (tag, size, bound) = match self {
+            Register::Empty => return [Public(0); 5],
+            Register::Number(ring) => (1, ring.width(), ring.modulus()),
+            Register::Bits(count) => (2, count, 1 << count),
+        };
+        let share = Below(bound);
+        [Public(tag), Public(size), share, share, share]
+    }
+}
+
+/// A position, and the run lent with it: the items from there on, other words before and behind.
+fn stretch(at: At, later: usize, items: &[Word]) -> (Word, Run) {
+    let (limit, need) = (LIMIT as usize, items.len());
+    let (position, lent) = match at {
+        At::First => (0, need + MARGIN),
+        At::Later => (later, later + need),
+        At::End => (limit - need, limit),
+    };
+    let from = position.saturating_sub(MARGIN);
+    let words = [&vec![Any; position - from], items, &[Any; MARGIN]].concat();
+    (Public(position as u64), Run { lent, from, words })
+}
+
+/// What an order takes: the items of each mask tape, those of the dealer's tape, and the words of each channel.
+fn taken(registers: &[Word], order: [Word; 4]) -> [Vec<Word>; 3] {
+    let sample = |word: &Word| word.drawn(1, &mut Draw::new(0));
+    let mut words: Vec<u64> = registers.iter().map(sample).collect();
+    words.extend([0; 3]);
+    let order: Vec<u64> = order.iter().map(sample).collect();
+    let record = read_record(&words).expect("a record");
+    let items = |moduli: Vec<u64>| moduli.into_iter().map(Below).collect();
+    match needs(&record, read_order(&order).expect("an order")) {
+        Needs::Masks(moduli) => [items(moduli.clone()), vec![], vec![Any; moduli.len()]],
+        Needs::Dealer(moduli) => [vec![], items(moduli), vec![]],
+        Needs::Nothing => [vec![], vec![], vec![Any; usize::from(order[0] == 9)]],
+    }
+}
+
+impl Case {
+    /// An accepted order, given in words.
+    pub fn order(name: String, registers: [Register; 16], order: [Word; 4], at: At) -> Case {
+        let mut record = registers.map(Register::words).concat();
+        let [masks, dealer, channels] = taken(&record, order);
+        let (masks_at, masks) = stretch(at, 40, &masks);
+        let (channels_at, channels) = stretch(at, 25, &channels);
+        let (dealer_at, dealer) = stretch(at, 9, &dealer);
+        record.extend([masks_at, channels_at, dealer_at]);
+        let [c0, c1, c2] = [(); 3].map(|_| channels.clone());
+        let [m0, m1, m2] = [(); 3].map(|_| masks.clone());
+        let (order, record) = (Run::whole(order.to_vec()), Run::whole(record));
+        let answer = Run::whole(vec![Public(77); ANSWER_WORDS]);
+        Case {
+            name,
+            call: STEP,
+            code: 0,
+            runs: [order, record, m0, m1, m2, dealer, c0, c1, c2, answer],
+            meant: 0,
+        }
+    }
+
+    /// A preparation.
+    pub fn tape(name: String, code: u64, raw: Vec<Word>, length: usize, meant: u64) -> Case {
+        let mut runs = [(); RUNS].map(|_| Run::whole(vec![]));
+        runs[DEALER] = Run::whole(raw);
+        runs[CHANNELS.start] = Run::whole(vec![Any; length]);
+        runs[ANSWER] = Run::whole(vec![Public(77); 2]);
+        Case {
+            name,
+            call: PREPARE,
+            code,
+            runs,
+            meant,
+        }
+    }
+
+    /// This order so changed that it is refused. No item is taken then, so any word may stand there.
+    pub fn refused(&self, by: u64, how: &str, change: impl FnOnce(&mut Case)) -> Case {
+        let mut case = self.clone();
+        for run in &mut case.runs[MASKS.start..=DEALER] {
+            run.words.fill(Any);
+        }
+        change(&mut case);
+        case.name = format!("{}, {by} {how}", self.name);
+        case.meant = by;
+        case
+    }
+
+    /// The words of all runs, one after the other.
+    pub fn words(&self) -> Vec<Word> {
+        self.runs.iter().flat_map(|run| run.words.clone()).collect()
+    }
+}

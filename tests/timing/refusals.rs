@@ -1,0 +1,154 @@
+//! Every refusal that an order of each kind can meet, but 1, 7 of a deal and 10, which test secrets; and words in no layout.
+
+use crate::cases::{At, Case, ANSWER, CHANNELS, DEALER, MASKS, ORDER, RECORD};
+use crate::orders::{usual, BITS, EMPTY, OF_OTHER_RING, SPARE, X};
+use crate::words::Word::{self, Any, Public};
+use reference::layout::MALFORMED;
+use reference::record::LIMIT;
+use reference::ring::Ring;
+
+const TOO_LONG: usize = LIMIT as usize + 1;
+
+/// Refusal, field of the order from 1 on, and what stands there.
+type Field = (u64, usize, u64);
+
+/// What checks 2 to 7 refuse.
+fn fields(kind: u64, ring: Ring) -> Vec<Field> {
+    let (e, p) = (ring.width(), ring.modulus());
+    let source = [(2, 1, 16), (2, 2, 1 << 32), (3, 2, EMPTY), (4, 2, BITS)];
+    let last: &[Field] = match kind {
+        1 => return vec![(2, 1, 16), (5, 2, 14), (5, 2, 0)],
+        2 | 4 => &[
+            (2, 3, 16),
+            (3, 3, EMPTY),
+            (4, 3, BITS),
+            (6, 3, OF_OTHER_RING),
+        ],
+        3 => &[(7, 3, p), (7, 3, u64::MAX)],
+        5 => &[(7, 3, 0), (7, 3, e - 1)],
+        6 => &[(5, 3, 14)],
+        7 => &[(7, 3, e - 2), (7, 3, u64::MAX)],
+        8 => return vec![(2, 1, 16), (2, 2, 16), (3, 2, EMPTY), (4, 2, X), (5, 3, 14)],
+        _ => return vec![(2, 1, 16), (3, 1, EMPTY)],
+    };
+    [&source, last].concat()
+}
+
+fn by_field(case: &Case, (by, field, value): Field) -> Case {
+    case.refused(by, &format!("field {field} is {value}"), |case| {
+        // Without a ring there is no range for the number dealt.
+        let dealt = &mut case.runs[ORDER].words[3];
+        if !matches!(dealt, Public(_)) {
+            *dealt = Any;
+        }
+        case.runs[ORDER].words[field] = Public(value);
+    })
+}
+
+/// Unequal and too long, of three runs.
+fn by_lengths(case: &Case, runs: std::ops::Range<usize>) -> Vec<Case> {
+    let of = |k: usize| case.refused(8, &format!("run {k} longer"), |case| case.runs[k].lent += 1);
+    let all = case.refused(8, &format!("runs {runs:?} too long"), |case| {
+        case.runs[runs.clone()]
+            .iter_mut()
+            .for_each(|run| run.lent = TOO_LONG);
+    });
+    [runs.clone().map(of).collect(), vec![all]].concat()
+}
+
+/// One word too few, and an end before the position.
+fn by_what_is_left(case: &Case, by: u64, runs: std::ops::Range<usize>) -> Vec<Case> {
+    let lent = |lent: usize| {
+        case.refused(by, &format!("{lent} words lent"), |case| {
+            case.runs[runs.clone()]
+                .iter_mut()
+                .for_each(|run| run.lent = lent);
+        })
+    };
+    let first = &case.runs[runs.start];
+    vec![lent(first.lent - 1), lent(first.from)]
+}
+
+/// What checks 8, 9 and 11 refuse.
+fn by_runs(case: &Case, kind: u64) -> Vec<Case> {
+    match kind {
+        1 => {
+            let dealer = DEALER..DEALER + 1;
+            let long = case.refused(8, "dealer's tape too long", |case| {
+                case.runs[DEALER].lent = TOO_LONG
+            });
+            [vec![long], by_what_is_left(case, 9, dealer)].concat()
+        }
+        2 | 3 => vec![],
+        9 => [
+            by_lengths(case, CHANNELS),
+            by_what_is_left(case, 11, CHANNELS),
+        ]
+        .concat(),
+        _ => [
+            by_lengths(case, MASKS),
+            by_lengths(case, CHANNELS),
+            by_what_is_left(case, 9, MASKS),
+            by_what_is_left(case, 11, CHANNELS),
+        ]
+        .concat(),
+    }
+}
+
+/// Lengths and registers that are in no layout.
+fn malformed(case: &Case) -> Vec<Case> {
+    let length = |k: usize, lent: usize| {
+        let how = format!("run {k} of {lent} words");
+        case.refused(MALFORMED, &how, |case| case.runs[k].lent = lent)
+    };
+    let register = |tag: u64, size: u64, share: Word| {
+        let how = format!("a register of tag {tag}, size {size}");
+        case.refused(MALFORMED, &how, |case| {
+            let words = [Public(tag), Public(size), share, share, share];
+            let place = words.len() * SPARE;
+            case.runs[RECORD].words[place..][..words.len()].copy_from_slice(&words);
+        })
+    };
+    vec![
+        length(ORDER, 3),
+        length(ORDER, 5),
+        length(RECORD, 82),
+        length(RECORD, 84),
+        length(ANSWER, 2),
+        length(ANSWER, 4),
+        register(3, 13, Any),
+        register(1, 14, Any),
+        register(0, 0, Public(1)),
+    ]
+}
+
+fn of_kind(kind: u64, ring: Ring) -> Vec<Case> {
+    let case = usual(kind, ring, At::Later);
+    let by_fields = fields(kind, ring)
+        .into_iter()
+        .map(|field| by_field(&case, field));
+    [by_fields.collect(), by_runs(&case, kind)].concat()
+}
+
+/// Kinds that are none, and an opening with more than its field.
+fn no_orders() -> Vec<Case> {
+    let case = usual(9, Ring::all()[1], At::First);
+    let changes = [(0, 0), (0, 10), (0, u64::MAX), (2, 1), (3, 1)];
+    let word = |(k, value): (usize, u64)| {
+        case.refused(MALFORMED, &format!("word {k} is {value}"), |case| {
+            case.runs[ORDER].words[k] = Public(value);
+        })
+    };
+    changes.map(word).into()
+}
+
+pub fn refused() -> Vec<Case> {
+    let kinds = || 1..=9;
+    let in_rings = |kind: u64| Ring::all().map(|ring| of_kind(kind, ring)).concat();
+    let out_of_layout = |kind: u64| malformed(&usual(kind, Ring::all()[2], At::First));
+    let of_kinds = kinds().flat_map(in_rings);
+    of_kinds
+        .chain(kinds().flat_map(out_of_layout))
+        .chain(no_orders())
+        .collect()
+}
