@@ -8,14 +8,16 @@ mod format;
 #[path = "../../include/survey.rs"]
 mod survey;
 
-use format::{HEAD_WORDS, PREPARE, ROOM, RUNS, STEP, WRITTEN};
+use format::{Places, PREPARE, ROOM, RUNS, STEP, WRITTEN};
 use std::arch::asm;
-use std::fs::File;
-use std::io::{Read, Result, Write};
-use std::os::fd::FromRawFd;
 
 type Runs = [Vec<u64>; RUNS];
 type Lent<'a> = [&'a mut [u64]; RUNS];
+
+extern "C" {
+    fn read(file: i32, to: *mut u8, bytes: usize) -> isize;
+    fn write(file: i32, from: *const u8, bytes: usize) -> isize;
+}
 
 #[no_mangle]
 static mut TRACE_MARK: u64 = 0;
@@ -26,17 +28,18 @@ fn mark() {
     unsafe { (&raw mut TRACE_MARK).write_volatile(1) }
 }
 
-/// The fault that the caller is built with, if any, on a sub-share. In instructions, so that no compiler takes it away; what is
-/// read by the index is dropped at once, since a tracer that optimises leaves such a read out.
+/// The fault that the caller is built with, if any, on a sub-share. In instructions, so that no compiler takes it away, and
+/// such that a tracer which optimises would miss it: of the branch both ways lead to the same place, one by a second test, and
+/// what is read by the index is dropped at once.
 #[no_mangle]
 #[inline(never)]
-fn planted(record: &[u64]) {
+fn planted(share: u64) {
     static TABLE: [u64; 8] = [0; 8];
-    let share = record.get(2).map_or(0, |word| word & 7);
+    let share = share % 8;
     // SAFETY: nothing is written, the index is below 8 and the divisor is not 0.
     unsafe {
         if cfg!(planted = "branch") {
-            asm!("cmp {0}, 3", "ja 2f", "nop", "2:", in(reg) share);
+            asm!("jmp 3f", "2:", "jmp 4f", "3:", "test {0:e}, 1", "jnz 2b", "test {0:e}, 1", "jz 2b", "4:", in(reg) share);
         }
         if cfg!(planted = "index") {
             asm!("mov {0}, [{1} + 8*{0}]", "xor {0:e}, {0:e}", inout(reg) share => _, in(reg) &TABLE);
@@ -52,7 +55,7 @@ fn planted(record: &[u64]) {
 fn traced_step(lent: Lent) -> u64 {
     let [order, record, m0, m1, m2, dealer, c0, c1, c2, answer] = lent;
     mark();
-    planted(record);
+    planted(record[2]);
     let returned = survey::step(order, record, [m0, m1, m2], dealer, [c0, c1, c2], answer);
     mark();
     returned
@@ -70,57 +73,71 @@ fn traced_prepare(code: u64, lent: Lent) -> u64 {
 
 fn bytes(words: &mut [u64]) -> &mut [u8] {
     // SAFETY: every byte may have every value.
-    unsafe { words.align_to_mut().1 }
+    unsafe { std::slice::from_raw_parts_mut(words.as_mut_ptr().cast(), size_of_val(words)) }
 }
 
-/// Of each run, the words that are given.
-fn given<'a>(runs: &'a mut Runs, places: &[u64]) -> Lent<'a> {
-    let mut places = places.chunks(3);
-    runs.each_mut().map(|run| {
-        let place = places.next().unwrap();
-        &mut run[place[1] as usize..][..place[2] as usize]
-    })
+/// Fills the words from standard input; false at its end.
+fn fill(words: &mut [u64]) -> bool {
+    let mut left = bytes(words);
+    while !left.is_empty() {
+        // SAFETY: so many bytes may be written there.
+        let count = unsafe { read(0, left.as_mut_ptr(), left.len()) };
+        if count <= 0 {
+            return false;
+        }
+        left = &mut left[count as usize..];
+    }
+    true
 }
 
-/// Of each run, the words that are lent.
-fn lend<'a>(runs: &'a mut Runs, places: &[u64]) -> Lent<'a> {
-    let mut places = places.chunks(3);
-    runs.each_mut().map(|run| {
-        let place = places.next().unwrap();
-        &mut run[..place[0] as usize]
-    })
+/// Writes the words to standard output.
+fn send(words: &mut [u64]) {
+    let mut left = &*bytes(words);
+    while !left.is_empty() {
+        // SAFETY: so many bytes may be read there.
+        let count = unsafe { write(1, left.as_ptr(), left.len()) };
+        assert!(count > 0, "standard output");
+        left = &left[count as usize..];
+    }
 }
 
-fn call(head: &[u64; HEAD_WORDS], runs: &mut Runs) -> u64 {
-    let lent = lend(runs, &head[2..]);
-    match head[0] {
+/// Of a run, the words that are given.
+fn given<'a>(run: &'a mut [u64], place: &[u64; 3]) -> &'a mut [u64] {
+    &mut run[place[1] as usize..][..place[2] as usize]
+}
+
+fn call([call, code]: [u64; 2], runs: &mut Runs, places: &Places) -> u64 {
+    let mut places = places.iter();
+    let lent = runs
+        .each_mut()
+        .map(|run| &mut run[..places.next().unwrap()[0] as usize]);
+    match call {
         STEP => traced_step(lent),
-        PREPARE => traced_prepare(head[1], lent),
-        other => panic!("no call {other}"),
+        PREPARE => traced_prepare(code, lent),
+        _ => panic!("no call {call}"),
     }
 }
 
-fn load(input: &mut File, runs: &mut Runs, places: &[u64]) -> Result<()> {
-    let mut runs = given(runs, places).into_iter();
-    runs.try_for_each(|words| input.read_exact(bytes(words)))
+/// One round; false where standard input ends.
+fn round(runs: &mut Runs) -> bool {
+    let (mut head, mut places) = ([0; 2], Places::default());
+    if !fill(&mut head) {
+        return false;
+    }
+    let filled = fill(places.as_flattened_mut());
+    let mut given_runs = runs.iter_mut().zip(&places);
+    assert!(
+        filled && given_runs.all(|(run, place)| fill(given(run, place))),
+        "standard input"
+    );
+    send(&mut [call(head, runs, &places)]);
+    for k in WRITTEN {
+        send(given(&mut runs[k], &places[k]));
+    }
+    true
 }
 
-fn answer(output: &mut File, runs: &mut Runs, places: &[u64], returned: u64) -> Result<()> {
-    output.write_all(&returned.to_ne_bytes())?;
-    let mut runs = given(runs, places);
-    let mut written = WRITTEN.into_iter();
-    written.try_for_each(|k| output.write_all(bytes(runs[k])))
-}
-
-fn main() -> Result<()> {
-    // SAFETY: nothing else here uses the two.
-    let (mut input, mut output) = unsafe { (File::from_raw_fd(0), File::from_raw_fd(1)) };
+fn main() {
     let mut runs: Runs = std::array::from_fn(|_| vec![0; ROOM]);
-    let mut head = [0; HEAD_WORDS];
-    while input.read_exact(bytes(&mut head)).is_ok() {
-        load(&mut input, &mut runs, &head[2..])?;
-        let returned = call(&head, &mut runs);
-        answer(&mut output, &mut runs, &head[2..], returned)?;
-    }
-    Ok(())
+    while round(&mut runs) {}
 }

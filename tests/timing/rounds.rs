@@ -1,7 +1,7 @@
 //! The rounds of a list of cases, and what the reference says that each leaves.
 
 use crate::cases::{Case, Run};
-use crate::format::{HEAD_WORDS, ROOM, RUNS, STEP, WRITTEN};
+use crate::format::{Places, ROOM, RUNS, STEP, WRITTEN};
 use crate::words::{are_telling, DRAWS};
 use jobs::draw::Draw;
 use reference::layout::{prepare_words, step_words};
@@ -21,11 +21,10 @@ pub struct Rounds {
     pub telling: Vec<bool>,
 }
 
-fn head(case: &Case) -> [u64; HEAD_WORDS] {
+fn head(case: &Case) -> Vec<u64> {
     let place = |run: &Run| [run.lent, run.from, run.words.len()].map(|n| n as u64);
-    let places = case.runs.each_ref().map(place).concat();
-    let mut words = [case.call, case.code].into_iter().chain(places);
-    std::array::from_fn(|_| words.next().unwrap())
+    let places: Places = case.runs.each_ref().map(place);
+    [&[case.call, case.code], places.as_flattened()].concat()
 }
 
 /// Puts the words of a draw into the runs.
@@ -84,7 +83,7 @@ impl Rounds {
             };
             let draws: Vec<Vec<u64>> = (0..DRAWS).map(drawn).collect();
             rounds.telling.push(are_telling(&words, &draws));
-            let round = |drawn: &Vec<u64>| [&head(case), &drawn[..]].concat();
+            let round = |drawn: &Vec<u64>| [head(case), drawn.clone()].concat();
             rounds.input.extend(draws.iter().flat_map(round));
             let replies = draws.iter().map(|drawn| reply(case, &mut runs, drawn));
             rounds.replies.push(replies.collect());
