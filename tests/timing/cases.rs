@@ -48,8 +48,8 @@ pub struct Case {
 /// Where an order stands on tapes and channels.
 #[derive(Clone, Copy, Debug)]
 pub enum At {
-    First,
-    Later,
+    Start,
+    Middle,
     /// The last word that 01 allows is taken.
     End,
 }
@@ -74,11 +74,11 @@ impl Register {
 }
 
 /// A position, and the run lent with it: the items from there on, other words before and behind.
-fn stretch(at: At, later: usize, items: &[Word]) -> (Word, Run) {
+fn stretch(at: At, middle: usize, items: &[Word]) -> (Word, Run) {
     let (limit, need) = (LIMIT as usize, items.len());
     let (position, lent) = match at {
-        At::First => (0, need + MARGIN),
-        At::Later => (later, later + need),
+        At::Start => (0, need + MARGIN),
+        At::Middle => (middle, middle + need),
         At::End => (limit - need, limit),
     };
     let from = position.saturating_sub(MARGIN);
@@ -123,8 +123,8 @@ impl Case {
         }
     }
 
-    /// A preparation.
-    pub fn tape(name: String, code: u64, raw: Vec<Word>, length: usize, meant: u64) -> Case {
+    /// A preparation of so many items.
+    pub fn preparation(name: String, code: u64, raw: Vec<Word>, length: usize, meant: u64) -> Case {
         let mut runs = [(); RUNS].map(|_| Run::whole(vec![]));
         runs[DEALER] = Run::whole(raw);
         runs[CHANNELS.start] = Run::whole(vec![Any; length]);
@@ -145,7 +145,7 @@ impl Case {
             run.words.fill(Any);
         }
         change(&mut case);
-        case.name = format!("{}, {by} {how}", self.name);
+        case.name = format!("{}, refused by {by}: {how}", self.name);
         case.meant = by;
         case
     }

@@ -1,14 +1,15 @@
 //! Division instructions in code, which take their time by what they divide.
 
 use crate::symbols::output;
+use std::collections::BTreeSet;
 use std::path::Path;
 
-/// The name of a disassembled line's instruction, if that divides: div, idiv, and those of vectors and of the x87.
+/// A disassembled line's instruction, if it divides: div, idiv, and those of vectors and of the x87.
 fn division(line: &str) -> Option<&str> {
     let (_, text) = line.split_once(":\t")?;
     let text = text.split(['<', '#']).next()?;
-    let mut words = text.split_whitespace();
-    words.find(|word| word.contains("div") || word.starts_with("fprem"))
+    let divides = |word: &str| word.contains("div") || word.starts_with("fprem");
+    text.split_whitespace().any(divides).then_some(text)
 }
 
 /// Object, function and instruction of each division in a program or archive.
@@ -28,11 +29,17 @@ pub fn divisions(file: &Path) -> Vec<String> {
     found
 }
 
-/// What an archive leaves to others: of their code nothing is known.
+/// What an archive leaves to others: nothing is known of their code.
 pub fn undefined(archive: &Path) -> Vec<String> {
-    let text = output("nm", &["-u"], archive);
-    let names = text
-        .lines()
-        .filter_map(|line| line.trim_start().strip_prefix("U "));
-    names.map(|name| format!("calls {name}")).collect()
+    let names = |which: &str| -> BTreeSet<String> {
+        let text = output("nm", &["-j", which], archive);
+        text.lines().map(str::to_string).collect()
+    };
+    let (defined, used) = (names("--defined-only"), names("--undefined-only"));
+    let missing = used
+        .difference(&defined)
+        .filter(|name| !name.ends_with(':'));
+    missing
+        .map(|name| format!("not in the archive: {name}"))
+        .collect()
 }

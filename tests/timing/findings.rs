@@ -43,24 +43,21 @@ fn fault(
     seen: &Comparison,
 ) -> Option<String> {
     let expected = &rounds.replies[k];
-    let meant = expected.iter().position(|reply| reply[0] != case.meant);
-    let same = expected.iter().zip(found).position(|(a, b)| a != b);
+    let otherwise = expected.iter().position(|reply| reply[0] != case.meant);
+    let wrong = expected.iter().zip(found).position(|(a, b)| a != b);
     if !rounds.telling[k] {
         return Some("its draws are too much alike".to_string());
     }
-    if let Some(draw) = meant {
+    if let Some(draw) = otherwise {
         return Some(format!(
             "draw {draw} is meant to return {}, not {}",
             case.meant, expected[draw][0]
         ));
     }
-    if let Some(draw) = same {
-        return Some(format!(
-            "draw {draw} does not leave what the reference does"
-        ));
+    if !seen.is_whole(DRAWS) {
+        return Some("not all of its draws were traced".to_string());
     }
-    let whole = found.len() == DRAWS && seen.is_whole(DRAWS);
-    (!whole).then(|| "not all of its draws were traced".to_string())
+    wrong.map(|draw| format!("draw {draw} does not leave what the reference does"))
 }
 
 /// Cuts what the caller wrote into the replies of each case.

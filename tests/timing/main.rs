@@ -63,8 +63,8 @@ fn check_traces(tally: &mut Tally) {
 
 /// A fault on a sub-share must show in the trace, and be found where it was planted.
 fn check_planted(fault: &str, tally: &mut Tally) {
-    let case = usual(2, Ring::all()[1], At::First);
-    let findings = trace_cases(&caller(&format!("_{fault}")), &[case]);
+    let cases = [2, 4].map(|kind| usual(kind, Ring::all()[1], At::Start));
+    let findings = trace_cases(&caller(&format!("_{fault}")), &cases);
     let planted = |finding: &Finding| {
         finding
             .difference
@@ -96,7 +96,7 @@ fn cell(finding: &Finding) -> String {
 }
 
 fn table() {
-    let row = |kind: u64| Ring::all().map(|ring| usual(kind, ring, At::First));
+    let row = |kind: u64| Ring::all().map(|ring| usual(kind, ring, At::Start));
     let cases: Vec<Case> = (1..=9).flat_map(row).collect();
     let findings = trace_cases(&caller(""), &cases);
     println!("| order | ring 13 | ring 31 | ring 61 |\n|---|---|---|---|");
@@ -112,10 +112,10 @@ fn main() {
         ["table"] => table(),
         ["check", archive] => {
             let mut tally = Tally::default();
-            check_traces(&mut tally);
+            check_divisions(Path::new(archive), &mut tally);
             check_planted("branch", &mut tally);
             check_planted("index", &mut tally);
-            check_divisions(Path::new(archive), &mut tally);
+            check_traces(&mut tally);
             tally.finish()
         }
         _ => panic!("timing check ARCHIVE, or timing table"),

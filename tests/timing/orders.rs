@@ -53,7 +53,7 @@ fn field_text(field: Word) -> String {
 fn order(kind: u64, fields: [Word; 3], ring: Ring, count: u64, at: At) -> Case {
     let [a, b, c] = fields;
     let name = format!(
-        "{} {}, ring {}, {count} bits, {at:?}",
+        "{} {}, ring {}, {count} bits, at the {at:?}",
         NAMES[kind as usize - 1],
         fields.map(field_text).join(" "),
         ring.width()
@@ -99,30 +99,25 @@ fn openings_of_bits(ring: Ring, at: At) -> Vec<Case> {
 /// Every kind in a ring. Those with few instructions at all three places.
 fn of_ring(ring: Ring) -> Vec<Case> {
     let (e, p) = (ring.width(), ring.modulus());
-    let two = [At::First, At::Later];
-    let three = [At::First, At::Later, At::End];
-    let lasts = [1, (e - 2) / 2, e - 2];
+    let two = [At::Start, At::Middle];
+    let three = [At::Start, At::Middle, At::End];
+    // 01: "d is the destination, which may equal a source".
+    let onto_source =
+        |kind, fields: [u64; 3]| order(kind, fields.map(Public), ring, COUNT, At::Middle);
     [
         three.map(|at| usual(1, ring, at)).into(),
         on_x(2, &[Y, X], ring, &two),
         on_x(3, &[0, 1, p / 3, p - 1], ring, &two),
         on_x(4, &[Y, X], ring, &three),
-        on_x(5, &lasts, ring, &two),
+        on_x(5, &[1, (e - 2) / 2, e - 2], ring, &two),
         on_x(6, &Ring::all().map(Ring::width), ring, &three),
-        on_x(7, &[0, 3, e - 3], ring, &two),
+        on_x(7, &[0, 3, (e - 3) / 2, e - 3], ring, &two),
         two.map(|at| compositions(ring, at)).concat(),
         three.map(|at| usual(9, ring, at)).into(),
         two.map(|at| openings_of_bits(ring, at)).concat(),
-        // The destination may be a source.
-        vec![order(4, [X, X, Y].map(Public), ring, COUNT, At::Later)],
-        vec![order(5, [X, X, COUNT].map(Public), ring, COUNT, At::Later)],
-        vec![order(
-            8,
-            [BITS, BITS, e].map(Public),
-            ring,
-            COUNT,
-            At::Later,
-        )],
+        vec![onto_source(4, [X, X, Y])],
+        vec![onto_source(5, [X, X, COUNT])],
+        vec![onto_source(8, [BITS, BITS, e])],
     ]
     .concat()
 }

@@ -123,7 +123,7 @@ fn malformed(case: &Case) -> Vec<Case> {
 }
 
 fn of_kind(kind: u64, ring: Ring) -> Vec<Case> {
-    let case = usual(kind, ring, At::Later);
+    let case = usual(kind, ring, At::Middle);
     let by_fields = fields(kind, ring)
         .into_iter()
         .map(|field| by_field(&case, field));
@@ -132,7 +132,7 @@ fn of_kind(kind: u64, ring: Ring) -> Vec<Case> {
 
 /// Kinds that are none, and an opening with more than its field.
 fn no_orders() -> Vec<Case> {
-    let case = usual(9, Ring::all()[1], At::First);
+    let case = usual(9, Ring::all()[1], At::Start);
     let changes = [(0, 0), (0, 10), (0, u64::MAX), (2, 1), (3, 1)];
     let word = |(k, value): (usize, u64)| {
         case.refused(MALFORMED, &format!("word {k} is {value}"), |case| {
@@ -145,7 +145,7 @@ fn no_orders() -> Vec<Case> {
 pub fn refused() -> Vec<Case> {
     let kinds = || 1..=9;
     let in_rings = |kind: u64| Ring::all().map(|ring| of_kind(kind, ring)).concat();
-    let out_of_layout = |kind: u64| malformed(&usual(kind, Ring::all()[2], At::First));
+    let out_of_layout = |kind: u64| malformed(&usual(kind, Ring::all()[2], At::Start));
     let of_kinds = kinds().flat_map(in_rings);
     of_kinds
         .chain(kinds().flat_map(out_of_layout))

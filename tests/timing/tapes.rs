@@ -35,22 +35,22 @@ fn of_pattern(pattern: &str, ring: Ring) -> [Case; 3] {
     let more = [&words[..], &[Any; UNUSED]].concat();
     let fewer = words[..words.len() - 1].to_vec();
     [
-        Case::tape(name("words left"), e, more, length, 0),
-        Case::tape(name("all used"), e, words, length, 0),
-        Case::tape(name("12"), e, fewer, length, 12),
+        Case::preparation(name("words left"), e, more, length, 0),
+        Case::preparation(name("all used"), e, words, length, 0),
+        Case::preparation(name("12"), e, fewer, length, 12),
     ]
 }
 
 fn bits(length: usize) -> [Case; 2] {
     let name = |what: &str| format!("prepare {length} bits, {what}");
     [
-        Case::tape(name("words left"), 1, vec![Any; length + UNUSED], length, 0),
-        Case::tape(name("12"), 1, vec![Any; length - 1], length, 12),
+        Case::preparation(name("words left"), 1, vec![Any; length + UNUSED], length, 0),
+        Case::preparation(name("12"), 1, vec![Any; length - 1], length, 12),
     ]
 }
 
 fn answer_of(words: usize) -> Case {
-    let mut case = Case::tape(
+    let mut case = Case::preparation(
         format!("prepare, answer of {words} words"),
         31,
         vec![Any; 5],
@@ -64,7 +64,7 @@ fn answer_of(words: usize) -> Case {
 pub fn prepared() -> Vec<Case> {
     let in_rings = |pattern: &str| Ring::all().map(|ring| of_pattern(pattern, ring)).concat();
     let nothing = [1, 13, 31, 61].map(|code| {
-        Case::tape(
+        Case::preparation(
             format!("prepare nothing, code {code}"),
             code,
             vec![Any; UNUSED],
@@ -72,8 +72,8 @@ pub fn prepared() -> Vec<Case> {
             0,
         )
     });
-    let no_ring =
-        CODES.map(|code| Case::tape(format!("prepare, code {code}"), code, vec![Any; 5], 5, 5));
+    let no_ring = CODES
+        .map(|code| Case::preparation(format!("prepare, code {code}"), code, vec![Any; 5], 5, 5));
     [
         PATTERNS.map(in_rings).concat(),
         [1, 2, 70].map(bits).concat(),

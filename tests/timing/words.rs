@@ -16,8 +16,9 @@ pub enum Word {
     Below(u64),
     /// A secret that may be any word.
     Any,
-    /// Raw words that preparation keeps and drops for a modulus: that one's bits are not all ones, or are.
+    /// A raw word that is kept for a modulus: the bits of the modulus are not all ones.
     Kept(u64),
+    /// One that is dropped: they are.
     Dropped(u64),
 }
 
@@ -34,7 +35,8 @@ impl Word {
         }
     }
 
-    fn is_told(self, values: &BTreeSet<u64>) -> bool {
+    /// Whether so many values among the draws are enough.
+    fn varies(self, values: &BTreeSet<u64>) -> bool {
         let least = match self {
             Word::Public(_) => 1,
             Word::Below(bound) => bound.min(VALUES),
@@ -64,5 +66,5 @@ fn number(turn: usize, top: u64, draw: &mut Draw) -> u64 {
 pub fn are_telling(words: &[Word], draws: &[Vec<u64>]) -> bool {
     let anew = draws[1..].iter().all(|draw| *draw != draws[0]);
     let values = |k: usize| draws.iter().map(|draw| draw[k]).collect();
-    anew && (0..).zip(words).all(|(k, word)| word.is_told(&values(k)))
+    anew && (0..).zip(words).all(|(k, word)| word.varies(&values(k)))
 }
