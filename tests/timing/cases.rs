@@ -88,6 +88,7 @@ fn stretch(at: At, middle: usize, items: &[Word]) -> (Word, Run) {
 
 /// What an order takes: the items of each mask tape, those of the dealer's tape, and the words of each channel.
 fn taken(registers: &[Word], order: [Word; 4]) -> [Vec<Word>; 3] {
+    // In turn 1 every secret is 0.
     let sample = |word: &Word| word.drawn(1, &mut Draw::new(0));
     let mut words: Vec<u64> = registers.iter().map(sample).collect();
     words.extend([0; 3]);
@@ -148,6 +149,13 @@ impl Case {
         case.name = format!("{}, refused by {by}: {how}", self.name);
         case.meant = by;
         case
+    }
+
+    /// Lends so many words of each of some runs.
+    pub fn lend(&mut self, runs: Range<usize>, lent: usize) {
+        for run in &mut self.runs[runs] {
+            run.lent = lent;
+        }
     }
 
     /// The words of all runs, one after the other.

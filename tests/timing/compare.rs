@@ -90,9 +90,4 @@ impl Comparison {
     pub fn is_whole(&self, draws: usize) -> bool {
         self.draws == draws && self.instructions.iter().all(|&count| count > 0)
     }
-
-    /// The traces are not needed any more.
-    pub fn finish(&mut self) {
-        self.first = Vec::new();
-    }
 }

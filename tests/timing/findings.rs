@@ -88,12 +88,8 @@ fn trace_list(caller: &Path, symbols: &Symbols, cases: Vec<&Case>, seed: u64) ->
     let mut seen: Vec<Comparison> = cases.iter().map(|_| Comparison::default()).collect();
     let mut traces = 0;
     let (written, lines) = trace::run(caller, symbols, &input, |part| {
-        let comparison = &mut seen[traces / DRAWS];
-        comparison.take(part, symbols);
+        seen[traces / DRAWS].take(part, symbols);
         traces += 1;
-        if traces % DRAWS == 0 {
-            comparison.finish();
-        }
     })
     .unwrap_or_else(|error| panic!("valgrind: {error}"));
     let found = replies(&written, &rounds);

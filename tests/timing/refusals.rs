@@ -6,8 +6,7 @@ use crate::words::Word::{self, Any, Public};
 use reference::layout::MALFORMED;
 use reference::record::LIMIT;
 use reference::ring::Ring;
-
-const TOO_LONG: usize = LIMIT as usize + 1;
+use std::ops::Range;
 
 /// Refusal, field of the order from 1 on, and what stands there.
 type Field = (u64, usize, u64);
@@ -45,53 +44,49 @@ fn by_field(case: &Case, (by, field, value): Field) -> Case {
     })
 }
 
-/// Unequal and too long, of three runs.
-fn by_lengths(case: &Case, runs: std::ops::Range<usize>) -> Vec<Case> {
-    let of = |k: usize| case.refused(8, &format!("run {k} longer"), |case| case.runs[k].lent += 1);
-    let all = case.refused(8, &format!("runs {runs:?} too long"), |case| {
-        case.runs[runs.clone()]
-            .iter_mut()
-            .for_each(|run| run.lent = TOO_LONG);
-    });
-    [runs.clone().map(of).collect(), vec![all]].concat()
+fn too_long(case: &Case, runs: Range<usize>) -> Case {
+    case.refused(8, &format!("runs {runs:?} too long"), |case| {
+        case.lend(runs, LIMIT as usize + 1)
+    })
 }
 
 /// One word too few, and an end before the position.
-fn by_what_is_left(case: &Case, by: u64, runs: std::ops::Range<usize>) -> Vec<Case> {
-    let lent = |lent: usize| {
-        case.refused(by, &format!("{lent} words lent"), |case| {
-            case.runs[runs.clone()]
-                .iter_mut()
-                .for_each(|run| run.lent = lent);
+fn too_short(case: &Case, by: u64, runs: Range<usize>) -> [Case; 2] {
+    let first = &case.runs[runs.start];
+    [first.lent - 1, first.from].map(|lent| {
+        case.refused(by, &format!("{lent} words in runs {runs:?}"), |case| {
+            case.lend(runs.clone(), lent)
+        })
+    })
+}
+
+/// Three runs of unequal length, too long and too short.
+fn by_three(case: &Case, by: u64, runs: Range<usize>) -> Vec<Case> {
+    let longer = |k: usize| {
+        let lent = case.runs[k].lent + 1;
+        case.refused(8, &format!("{lent} words in run {k}"), |case| {
+            case.lend(k..k + 1, lent)
         })
     };
-    let first = &case.runs[runs.start];
-    vec![lent(first.lent - 1), lent(first.from)]
+    let unequal = runs.clone().map(longer);
+    let long = [too_long(case, runs.clone())];
+    unequal
+        .chain(long)
+        .chain(too_short(case, by, runs))
+        .collect()
 }
 
 /// What checks 8, 9 and 11 refuse.
 fn by_runs(case: &Case, kind: u64) -> Vec<Case> {
+    let dealer = DEALER..DEALER + 1;
     match kind {
         1 => {
-            let dealer = DEALER..DEALER + 1;
-            let long = case.refused(8, "dealer's tape too long", |case| {
-                case.runs[DEALER].lent = TOO_LONG
-            });
-            [vec![long], by_what_is_left(case, 9, dealer)].concat()
+            let [fewer, none] = too_short(case, 9, dealer.clone());
+            vec![too_long(case, dealer), fewer, none]
         }
         2 | 3 => vec![],
-        9 => [
-            by_lengths(case, CHANNELS),
-            by_what_is_left(case, 11, CHANNELS),
-        ]
-        .concat(),
-        _ => [
-            by_lengths(case, MASKS),
-            by_lengths(case, CHANNELS),
-            by_what_is_left(case, 9, MASKS),
-            by_what_is_left(case, 11, CHANNELS),
-        ]
-        .concat(),
+        9 => by_three(case, 11, CHANNELS),
+        _ => [by_three(case, 9, MASKS), by_three(case, 11, CHANNELS)].concat(),
     }
 }
 

@@ -37,7 +37,7 @@ fn of_pattern(pattern: &str, ring: Ring) -> [Case; 3] {
     [
         Case::preparation(name("words left"), e, more, length, 0),
         Case::preparation(name("all used"), e, words, length, 0),
-        Case::preparation(name("12"), e, fewer, length, 12),
+        Case::preparation(name("a word too few"), e, fewer, length, 12),
     ]
 }
 
@@ -45,7 +45,7 @@ fn bits(length: usize) -> [Case; 2] {
     let name = |what: &str| format!("prepare {length} bits, {what}");
     [
         Case::preparation(name("words left"), 1, vec![Any; length + UNUSED], length, 0),
-        Case::preparation(name("12"), 1, vec![Any; length - 1], length, 12),
+        Case::preparation(name("a word too few"), 1, vec![Any; length - 1], length, 12),
     ]
 }
 
