@@ -72,28 +72,39 @@ pub fn decompose(lent: Lent, r: Ring, a: Sharing, l: usize) -> Sharing {
     xor(total.map(|w| w >> 2), raising).map(|w| w & ((1 << l) - 1))
 }
 
-/// u + v - 2uv, by gate k.
+/// u + v - 2uv, not reduced: at most u + v + 2p.
 #[inline(always)]
-fn ring_xor(lent: &mut Lent, k: usize, r: Ring, u: Sharing, v: Sharing) -> Sharing {
-    let uv = lent.ring_gate(k, r, u, v);
-    let part = |i: usize| r.sub(r.add(u[i], v[i]), r.add(uv[i], uv[i]));
+fn joined(r: Ring, u: Sharing, v: Sharing, uv: Sharing) -> Sharing {
+    let part = |i: usize| u[i] + v[i] + 2 * (r.p - uv[i]);
+    [part(0), part(1), part(2)]
+}
+
+/// The ring shares of an exclusive or, by gates 2k and 2k + 1, not reduced: below 5p.
+#[inline(always)]
+fn ring_xor(lent: &mut Lent, k: usize, r: Ring, [b0, b1, b2]: Sharing) -> Sharing {
+    let z = lent.gate_of_bits(2 * k, r, b0, b1);
+    let pair = joined(r, [b0, 0, 0], [0, b1, 0], z);
+    let z = lent.gate_by_bit(2 * k + 1, r, pair, b2);
+    joined(r, pair, [0, 0, b2], z)
+}
+
+/// sum + 2^turn b, folded: the weight turns the e bits of b left.
+#[inline(always)]
+fn add_turned(r: Ring, sum: Sharing, b: Sharing, turn: u64) -> Sharing {
+    let part = |i: usize| r.fold(sum[i] + (b[i] << turn & r.p) + (b[i] >> (r.width - turn)));
     [part(0), part(1), part(2)]
 }
 
 /// Order 8: `count` bits of w from bit `from` on, two gates each.
 pub fn compose(lent: Lent, r: Ring, w: Sharing, from: usize, count: usize) -> Sharing {
     let (mut lent, _) = lent.split_at(2 * count);
-    let (mut sum, mut weight) = ([0; 3], 1);
+    let (mut sum, mut turn) = ([0; 3], 0);
     for k in 0..count {
-        let [b0, b1, b2] = bits(w, from + k);
-        let pair = ring_xor(&mut lent, 2 * k, r, [b0, 0, 0], [0, b1, 0]);
-        let all = ring_xor(&mut lent, 2 * k + 1, r, pair, [0, 0, b2]);
-        for i in 0..3 {
-            sum[i] = r.add(sum[i], r.mul(weight, all[i]));
-        }
-        weight = r.add(weight, weight);
+        let b = ring_xor(&mut lent, k, r, bits(w, from + k));
+        sum = add_turned(r, sum, b, turn);
+        turn = if turn + 1 == r.width { 0 } else { turn + 1 };
     }
-    sum
+    sum.map(|s| r.reduce(s))
 }
 
 /// Order 6: from ring e to ring f, five gates.
@@ -104,8 +115,8 @@ pub fn convert(lent: Lent, e: Ring, f: Ring, a: Sharing) -> Sharing {
     let [b0, b1, b2] = bits(r, 0);
     let carry = majority(&mut first, 0, [b0, 0, 0], [0, b1, 0], [0, 0, b2]);
     let q = compose(lent, f, xor(r, carry.map(|c| c << 1)), 0, 2);
-    let p = e.p % f.p;
-    let part = |i: usize| f.mul(f.quarter(), f.sub(x[i] % f.p, f.mul(p, q[i])));
+    let p = f.reduce_word(e.p);
+    let part = |i: usize| f.mul(f.quarter(), f.sub(f.reduce_word(x[i]), f.mul(p, q[i])));
     [part(0), part(1), part(2)]
 }
 

@@ -33,9 +33,10 @@ impl<'a> Lent<'a> {
         [m0[k], m1[k], m2[k]]
     }
 
-    fn send(&mut self, k: usize, z: Sharing) {
+    fn send(&mut self, k: usize, z: Sharing) -> Sharing {
         let [c0, c1, c2] = &mut self.channels;
         [c0[k], c1[k], c2[k]] = z;
+        z
     }
 
     /// Gate k, on bits.
@@ -43,26 +44,40 @@ impl<'a> Lent<'a> {
     pub fn bit_gate(&mut self, k: usize, x: Sharing, y: Sharing) -> Sharing {
         let t = self.items(k);
         let word = |i: usize, n: usize| (x[i] & (y[i] ^ y[n])) ^ (x[n] & y[i]) ^ t[i] ^ t[n];
-        let z = [word(0, 1), word(1, 2), word(2, 0)];
-        self.send(k, z);
-        z
+        self.send(k, [word(0, 1), word(1, 2), word(2, 0)])
     }
 
     /// Gate k, in a ring.
     #[inline(always)]
     pub fn ring_gate(&mut self, k: usize, r: Ring, x: Sharing, y: Sharing) -> Sharing {
-        let z = ring_words(r, x, y, self.items(k));
-        self.send(k, z);
-        z
+        let t = self.items(k);
+        self.send(k, ring_words(r, x, y, t))
+    }
+
+    /// Gate k in a ring, of a bit at place 0 with a bit at place 1.
+    #[inline(always)]
+    pub fn gate_of_bits(&mut self, k: usize, r: Ring, b0: u64, b1: u64) -> Sharing {
+        let [t0, t1, t2] = self.items(k);
+        let z0 = r.reduce((b0 & b1) + t0 + (r.p - t1));
+        self.send(k, [z0, r.sub(t1, t2), r.sub(t2, t0)])
+    }
+
+    /// Gate k in a ring, of an x below 3p with a bit at place 2.
+    #[inline(always)]
+    pub fn gate_by_bit(&mut self, k: usize, r: Ring, x: Sharing, b2: u64) -> Sharing {
+        let [t0, t1, t2] = self.items(k);
+        let z1 = r.reduce(x[1] * b2 + t1 + (r.p - t2));
+        let z2 = r.reduce((x[2] + x[0]) * b2 + t2 + (r.p - t0));
+        self.send(k, [r.sub(t0, t1), z1, z2])
     }
 }
 
-/// The three words of a gate in a ring.
+/// The three words of a gate in a ring, each reduced once.
 #[inline(always)]
 pub fn ring_words(r: Ring, x: Sharing, y: Sharing, t: Sharing) -> Sharing {
     let word = |i: usize, n: usize| {
-        let products = r.add(r.mul(x[i], r.add(y[i], y[n])), r.mul(x[n], y[i]));
-        r.add(products, r.sub(t[i], t[n]))
+        let products = r.two_products([x[i], r.add(y[i], y[n])], [x[n], y[i]]);
+        r.reduce(r.fold(products) + t[i] + (r.p - t[n]))
     };
     [word(0, 1), word(1, 2), word(2, 0)]
 }

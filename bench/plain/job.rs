@@ -1,6 +1,6 @@
 //! The job program: lines in, printed lines out.
 
-use crate::record::Record;
+use crate::record::{Record, CHANNELS_AT, MASKS_AT};
 use crate::step::{step, with_three, Order, Runs};
 use std::io::{Read, Result, Write};
 
@@ -70,7 +70,7 @@ struct Session {
 impl Session {
     fn new() -> Session {
         Session {
-            record: Record::empty(),
+            record: [0; 83],
             masks: [[0; TAPE_LINES]; 3],
             masks_taken: 0,
             dealer: [0; TAPE_LINES],
@@ -162,12 +162,14 @@ impl<W: Write> Job<W> {
         if self.at + LONGEST > BUFFER {
             self.write_out()?;
         }
-        let Record {
-            masks_at,
-            channels_at,
-            ..
-        } = self.session.record;
-        let fields = [self.number, refusal, value, masks_at, channels_at];
+        let record = &self.session.record;
+        let fields = [
+            self.number,
+            refusal,
+            value,
+            record[MASKS_AT],
+            record[CHANNELS_AT],
+        ];
         for (field, end) in fields.into_iter().zip(*b",,,,\n") {
             self.at = put(&mut self.out, self.at, field, end);
         }

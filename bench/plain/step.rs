@@ -2,7 +2,8 @@
 
 use crate::circuits;
 use crate::gates::{Lent, Sharing};
-use crate::record::{Record, Register, LIMIT};
+use crate::record::{register, store_bits, store_number, Record};
+use crate::record::{BITS, CHANNELS_AT, DEALER_AT, EMPTY, LIMIT, MASKS_AT, NUMBER};
 use crate::ring::Ring;
 pub use reference::order::Order;
 
@@ -52,6 +53,15 @@ pub struct Answer {
     pub gates: u64,
 }
 
+impl Answer {
+    pub fn refused(refusal: Refusal) -> Answer {
+        Answer {
+            refusal,
+            ..Answer::default()
+        }
+    }
+}
+
 fn refuse_if(met: bool, refusal: Refusal) -> Result<(), Refusal> {
     if met {
         Err(refusal)
@@ -60,28 +70,28 @@ fn refuse_if(met: bool, refusal: Refusal) -> Result<(), Refusal> {
     }
 }
 
-fn number(register: Register) -> Result<(Ring, Sharing), Refusal> {
-    match register {
-        Register::Empty => Err(3),
-        Register::Bits(..) => Err(4),
-        Register::Number(r, x) => Ok((r, x)),
+fn number(record: &Record, x: u64) -> Result<(Ring, Sharing), Refusal> {
+    match register(record, x) {
+        [EMPTY, ..] => Err(3),
+        [BITS, ..] => Err(4),
+        [_, e, shares @ ..] => Ok((Ring::new(e), shares)),
     }
 }
 
-fn bits(register: Register) -> Result<(u64, Sharing), Refusal> {
-    match register {
-        Register::Empty => Err(3),
-        Register::Number(..) => Err(4),
-        Register::Bits(l, x) => Ok((l, x)),
+fn bits(record: &Record, x: u64) -> Result<(u64, Sharing), Refusal> {
+    match register(record, x) {
+        [EMPTY, ..] => Err(3),
+        [NUMBER, ..] => Err(4),
+        [_, l, shares @ ..] => Ok((l, shares)),
     }
 }
 
 /// 3 before 4, of either source; then 6.
-fn pair(x: Register, y: Register) -> Result<(Ring, Sharing, Sharing), Refusal> {
-    let empty = |register| matches!(register, Register::Empty);
+fn pair(record: &Record, x: u64, y: u64) -> Result<(Ring, Sharing, Sharing), Refusal> {
+    let empty = |n: u64| register(record, n)[0] == EMPTY;
     refuse_if(empty(x) || empty(y), 3)?;
-    let (r, x) = number(x)?;
-    let (other, y) = number(y)?;
+    let (r, x) = number(record, x)?;
+    let (other, y) = number(record, y)?;
     refuse_if(r != other, 6)?;
     Ok((r, x, y))
 }
@@ -98,8 +108,21 @@ fn left(length: usize, at: u64) -> u64 {
     (length as u64).saturating_sub(at)
 }
 
-fn any_outside(p: u64, tapes: [&[u64]; 3]) -> bool {
-    tapes.iter().any(|tape| tape.iter().any(|&item| item >= p))
+/// Whether an item is no bit.
+fn any_wider(tapes: [&[u64]; 3]) -> bool {
+    let united = |tape: &[u64]| tape.iter().fold(0, |all, &item| all | item);
+    let [u0, u1, u2] = tapes.map(united);
+    u0 | u1 | u2 > 1
+}
+
+/// Whether an item is p or more: it has a bit from e up, or the number after it has.
+fn any_outside(r: Ring, tapes: [&[u64]; 3]) -> bool {
+    let united = |tape: &[u64]| {
+        let bits = tape.iter().map(|&item| item | item.wrapping_add(1));
+        bits.fold(0, |all, bits| all | bits)
+    };
+    let [u0, u1, u2] = tapes.map(united);
+    u0 | u1 | u2 > r.p
 }
 
 /// Checks 8, 9, 11 and 10 for gates on bits and then in ring r; the runs from the positions on.
@@ -113,136 +136,145 @@ fn supply<'a>(
     let lengths = runs.channels.each_ref().map(|channel| channel.len());
     refuse_if(uneven(runs.masks.map(<[u64]>::len)) || uneven(lengths), 8)?;
     let n = on_bits + in_ring;
-    refuse_if(left(runs.masks[0].len(), record.masks_at) < n, 9)?;
-    refuse_if(left(lengths[0], record.channels_at) < n, 11)?;
+    refuse_if(left(runs.masks[0].len(), record[MASKS_AT]) < n, 9)?;
+    refuse_if(left(lengths[0], record[CHANNELS_AT]) < n, 11)?;
     let (middle, n) = (on_bits as usize, n as usize);
-    let from = record.masks_at as usize;
+    let from = record[MASKS_AT] as usize;
     let masks = runs.masks.map(|tape| &tape[from..from + n]);
-    let outside = any_outside(2, masks.map(|tape| &tape[..middle]))
-        || any_outside(r.p, masks.map(|tape| &tape[middle..]));
+    let outside = any_wider(masks.map(|tape| &tape[..middle]))
+        || any_outside(r, masks.map(|tape| &tape[middle..]));
     refuse_if(outside, 10)?;
-    let from = record.channels_at as usize;
+    let from = record[CHANNELS_AT] as usize;
     let channels = runs.channels.map(|channel| &mut channel[from..from + n]);
     Ok(Lent { masks, channels })
 }
 
-fn deal(record: &mut Record, dealer: &[u64], e: u64, v: u64) -> Result<Register, Refusal> {
+/// The gates that an order has spent.
+type Spent = Result<u64, Refusal>;
+
+fn deal(record: &mut Record, dealer: &[u64], d: u64, e: u64, v: u64) -> Spent {
     let r = ring(e)?;
     refuse_if(v >= r.p, 7)?;
     refuse_if(dealer.len() as u64 > LIMIT, 8)?;
-    refuse_if(left(dealer.len(), record.dealer_at) < 2, 9)?;
-    let at = record.dealer_at as usize;
+    refuse_if(left(dealer.len(), record[DEALER_AT]) < 2, 9)?;
+    let at = record[DEALER_AT] as usize;
     let [r0, r1] = [dealer[at], dealer[at + 1]];
     refuse_if(r0 >= r.p || r1 >= r.p, 10)?;
-    record.dealer_at += 2;
-    Ok(Register::Number(r, [r0, r1, r.sub(r.sub(v, r0), r1)]))
+    record[DEALER_AT] += 2;
+    store_number(record, d, r, [r0, r1, r.sub(r.sub(v, r0), r1)]);
+    Ok(0)
 }
 
-fn add(x: Register, y: Register) -> Result<Register, Refusal> {
-    let (r, x, y) = pair(x, y)?;
+fn add(record: &mut Record, d: u64, x: u64, y: u64) -> Spent {
+    let (r, x, y) = pair(record, x, y)?;
     let sum = |i: usize| r.add(x[i], y[i]);
-    Ok(Register::Number(r, [sum(0), sum(1), sum(2)]))
+    store_number(record, d, r, [sum(0), sum(1), sum(2)]);
+    Ok(0)
 }
 
-fn scale(x: Register, c: u64) -> Result<Register, Refusal> {
-    let (r, x) = number(x)?;
+fn scale(record: &mut Record, d: u64, x: u64, c: u64) -> Spent {
+    let (r, x) = number(record, x)?;
     refuse_if(c >= r.p, 7)?;
-    Ok(Register::Number(r, x.map(|part| r.mul(part, c))))
+    store_number(record, d, r, x.map(|part| r.mul(part, c)));
+    Ok(0)
 }
 
-/// What an order with gates leaves, and the gates spent.
-type Gated = Result<(Register, u64), Refusal>;
+/// Moves the positions past an order's gates.
+fn spend(record: &mut Record, gates: u64) -> Spent {
+    record[MASKS_AT] += gates;
+    record[CHANNELS_AT] += gates;
+    Ok(gates)
+}
 
-fn multiply(record: &Record, runs: Runs, x: Register, y: Register) -> Gated {
-    let (r, x, y) = pair(x, y)?;
+fn multiply(record: &mut Record, runs: Runs, d: u64, x: u64, y: u64) -> Spent {
+    let (r, x, y) = pair(record, x, y)?;
     let mut lent = supply(record, runs, 0, 1, r)?;
-    Ok((Register::Number(r, lent.ring_gate(0, r, x, y)), 1))
+    store_number(record, d, r, lent.ring_gate(0, r, x, y));
+    spend(record, 1)
 }
 
-fn decompose(record: &Record, runs: Runs, x: Register, l: u64) -> Gated {
-    let (r, a) = number(x)?;
+fn decompose(record: &mut Record, runs: Runs, d: u64, x: u64, l: u64) -> Spent {
+    let (r, a) = number(record, x)?;
     refuse_if(l < 1 || l > r.width - 2, 7)?;
     let gates = 3 * l + 1;
     let lent = supply(record, runs, gates, 0, r)?;
     let z = circuits::decompose(lent, r, a, l as usize);
-    Ok((Register::Bits(l, z), gates))
+    store_bits(record, d, l, z);
+    spend(record, gates)
 }
 
-fn convert(record: &Record, runs: Runs, x: Register, f: u64) -> Gated {
-    let (e, a) = number(x)?;
+fn convert(record: &mut Record, runs: Runs, d: u64, x: u64, f: u64) -> Spent {
+    let (e, a) = number(record, x)?;
     let f = ring(f)?;
     let lent = supply(record, runs, 1, 4, f)?;
-    Ok((Register::Number(f, circuits::convert(lent, e, f, a)), 5))
+    store_number(record, d, f, circuits::convert(lent, e, f, a));
+    spend(record, 5)
 }
 
-fn shift(record: &Record, runs: Runs, x: Register, s: u64) -> Gated {
-    let (r, a) = number(x)?;
+fn shift(record: &mut Record, runs: Runs, d: u64, x: u64, s: u64) -> Spent {
+    let (r, a) = number(record, x)?;
     refuse_if(s > r.width - 3, 7)?;
     let l = r.width - 2;
     let (on_bits, in_ring) = (3 * l + 1, 2 * (l - s));
     let lent = supply(record, runs, on_bits, in_ring, r)?;
     let z = circuits::shift(lent, r, a, s as usize);
-    Ok((Register::Number(r, z), on_bits + in_ring))
+    store_number(record, d, r, z);
+    spend(record, on_bits + in_ring)
 }
 
-fn compose(record: &Record, runs: Runs, x: Register, f: u64) -> Gated {
-    let (l, w) = bits(x)?;
+fn compose(record: &mut Record, runs: Runs, d: u64, x: u64, f: u64) -> Spent {
+    let (l, w) = bits(record, x)?;
     let f = ring(f)?;
     let lent = supply(record, runs, 0, 2 * l, f)?;
     let z = circuits::compose(lent, f, w, 0, l as usize);
-    Ok((Register::Number(f, z), 2 * l))
+    store_number(record, d, f, z);
+    spend(record, 2 * l)
 }
 
-fn open(record: &mut Record, runs: Runs, x: Register) -> Result<u64, Refusal> {
-    let (Register::Number(_, shares) | Register::Bits(_, shares)) = x else {
-        return Err(3);
-    };
-    let lengths = runs.channels.each_ref().map(|channel| channel.len());
+fn open(record: &mut Record, channels: [&mut [u64]; 3], x: u64) -> Result<u64, Refusal> {
+    let [tag, size, shares @ ..] = register(record, x);
+    refuse_if(tag == EMPTY, 3)?;
+    let lengths = channels.each_ref().map(|channel| channel.len());
     refuse_if(uneven(lengths), 8)?;
-    refuse_if(left(lengths[0], record.channels_at) < 1, 11)?;
-    let at = record.channels_at as usize;
-    let [c0, c1, c2] = runs.channels;
-    [c0[at], c1[at], c2[at]] = [shares[1], shares[2], shares[0]];
-    record.channels_at += 1;
-    Ok(x.value())
+    refuse_if(left(lengths[0], record[CHANNELS_AT]) < 1, 11)?;
+    let at = record[CHANNELS_AT] as usize;
+    let ([c0, c1, c2], [s0, s1, s2]) = (channels, shares);
+    [c0[at], c1[at], c2[at]] = [s1, s2, s0];
+    record[CHANNELS_AT] += 1;
+    Ok(match tag {
+        BITS => s0 ^ s1 ^ s2,
+        _ => Ring::new(size).reduce(s0 + s1 + s2),
+    })
 }
 
+#[inline(always)]
 fn attempt(record: &mut Record, order: Order, runs: Runs) -> Result<Answer, Refusal> {
-    refuse_if(!record.is_sound(), 1)?;
-    let registers = registers(order);
-    refuse_if(registers.iter().any(|&n| n > 15), 2)?;
-    let [d, x, y] = registers.map(|n| n as usize);
-    let (x, y) = (record.registers[x], record.registers[y]);
-    let (register, gates) = match order {
-        Order::Deal { e, v, .. } => (deal(record, runs.dealer, e, v)?, 0),
-        Order::Add { .. } => (add(x, y)?, 0),
-        Order::Scale { c, .. } => (scale(x, c)?, 0),
-        Order::Multiply { .. } => multiply(record, runs, x, y)?,
-        Order::Decompose { l, .. } => decompose(record, runs, x, l)?,
-        Order::Convert { f, .. } => convert(record, runs, x, f)?,
-        Order::Shift { s, .. } => shift(record, runs, x, s)?,
-        Order::Compose { f, .. } => compose(record, runs, x, f)?,
-        Order::Open { .. } => {
-            let value = open(record, runs, x)?;
+    refuse_if(registers(order).iter().any(|&n| n > 15), 2)?;
+    let gates = match order {
+        Order::Deal { d, e, v } => deal(record, runs.dealer, d, e, v)?,
+        Order::Add { d, x, y } => add(record, d, x, y)?,
+        Order::Scale { d, x, c } => scale(record, d, x, c)?,
+        Order::Multiply { d, x, y } => multiply(record, runs, d, x, y)?,
+        Order::Decompose { d, x, l } => decompose(record, runs, d, x, l)?,
+        Order::Convert { d, x, f } => convert(record, runs, d, x, f)?,
+        Order::Shift { d, x, s } => shift(record, runs, d, x, s)?,
+        Order::Compose { d, x, f } => compose(record, runs, d, x, f)?,
+        Order::Open { x } => {
+            let value = open(record, runs.channels, x)?;
             return Ok(Answer {
                 value,
                 ..Answer::default()
             });
         }
     };
-    record.registers[d] = register;
-    record.masks_at += gates;
-    record.channels_at += gates;
     Ok(Answer {
         gates,
         ..Answer::default()
     })
 }
 
-/// One order; a refused one changes nothing.
+/// One order on a sound record, which it leaves sound; a refused one changes nothing.
+#[inline(always)]
 pub fn step(record: &mut Record, order: Order, runs: Runs) -> Answer {
-    attempt(record, order, runs).unwrap_or_else(|refusal| Answer {
-        refusal,
-        ..Answer::default()
-    })
+    attempt(record, order, runs).unwrap_or_else(Answer::refused)
 }
