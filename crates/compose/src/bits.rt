@@ -157,9 +157,9 @@ fn reduce_sums(r: Ring, sum: Sharing) -> Sharing
     ensures is { λ z. ⌜ ((i : Place) → parts z i ≡ parts sum i % modulusOf r) ⌝ }
     ensures below { λ z. ⌜ InRange (modulusOf r) z ⌝ }
 {
-    let s0 = r.reduce_sum(sum.s0);
-    let s1 = r.reduce_sum(sum.s1);
-    let s2 = r.reduce_sum(sum.s2);
+    let s0 = r.reduce_pair(sum.s0);
+    let s1 = r.reduce_pair(sum.s1);
+    let s2 = r.reduce_pair(sum.s2);
     Sharing { s0, s1, s2 }
 }
 

@@ -109,29 +109,36 @@ word-of : (m x xf y yf t tf n : ℕ) {z : ℕ}
     → (z ≡ word m (pair x xf) (pair y yf) (pair t tf)) × (z < m)
 word-of m x xf y yf t tf n products (is, below) = (is ∙ word-from m x xf y yf t tf n (cong-of-eq products) (cong-refl _), below)
 
+-- and where they are 0
+word-alone : (m x xf y yf t tf : ℕ) {z : ℕ}
+    → 0 ≡ x * y + x * yf + xf * y
+    → (z ≡ mask m (pair t tf) % m) × (z < m)
+    → (z ≡ word m (pair x xf) (pair y yf) (pair t tf)) × (z < m)
+word-alone m x xf y yf t tf none (is, below) = word-of m x xf y yf t tf 0 none (is ∙ ap (λ (n : ℕ). n % m) (omega arith), below)
+
 -- of a bit at place 0 with a bit at place 1
 pub words-of-bits : (m b₀ b₁ : ℕ) (t : Sharing) {z₀ z₁ z₂ : ℕ}
     → (z₀ ≡ (b₀ * b₁ + mask m (pair (t .s0) (t .s1))) % m) × (z₀ < m)
-    → (z₁ ≡ (0 + mask m (pair (t .s1) (t .s2))) % m) × (z₁ < m)
-    → (z₂ ≡ (0 + mask m (pair (t .s2) (t .s0))) % m) × (z₂ < m)
+    → (z₁ ≡ mask m (pair (t .s1) (t .s2)) % m) × (z₁ < m)
+    → (z₂ ≡ mask m (pair (t .s2) (t .s0)) % m) × (z₂ < m)
     → (_≡_ {A = Sharing} (record { s0 = z₀; s1 = z₁; s2 = z₂ }) (sharing (gated m (three b₀ 0 0) (three 0 b₁ 0) (parts t))))
     × InRange m (record { s0 = z₀; s1 = z₁; s2 = z₂ })
 words-of-bits m b₀ b₁ t h₀ h₁ h₂ =
     words-hold m (record { s0 = b₀; s1 = 0; s2 = 0 }) (record { s0 = 0; s1 = b₁; s2 = 0 }) t
     (word-of m b₀ 0 0 b₁ (t .s0) (t .s1) (b₀ * b₁) (omega arith) h₀)
-    (word-of m 0 0 b₁ 0 (t .s1) (t .s2) 0 (omega arith) h₁)
-    (word-of m 0 b₀ 0 0 (t .s2) (t .s0) 0 (omega arith) h₂)
+    (word-alone m 0 0 b₁ 0 (t .s1) (t .s2) (omega arith) h₁)
+    (word-alone m 0 b₀ 0 0 (t .s2) (t .s0) (omega arith) h₂)
 
 -- of x with a bit at place 2
 pub words-by-bit : (m : ℕ) (x : Sharing) (b₂ : ℕ) (t : Sharing) {z₀ z₁ z₂ : ℕ}
-    → (z₀ ≡ (0 + mask m (pair (t .s0) (t .s1))) % m) × (z₀ < m)
+    → (z₀ ≡ mask m (pair (t .s0) (t .s1)) % m) × (z₀ < m)
     → (z₁ ≡ (x .s1 * b₂ + mask m (pair (t .s1) (t .s2))) % m) × (z₁ < m)
     → (z₂ ≡ ((x .s2 + x .s0) * b₂ + mask m (pair (t .s2) (t .s0))) % m) × (z₂ < m)
     → (_≡_ {A = Sharing} (record { s0 = z₀; s1 = z₁; s2 = z₂ }) (sharing (gated m (parts x) (three 0 0 b₂) (parts t))))
     × InRange m (record { s0 = z₀; s1 = z₁; s2 = z₂ })
 words-by-bit m x b₂ t h₀ h₁ h₂ =
     words-hold m x (record { s0 = 0; s1 = 0; s2 = b₂ }) t
-    (word-of m (x .s0) (x .s1) 0 0 (t .s0) (t .s1) 0 (omega arith) h₀)
+    (word-alone m (x .s0) (x .s1) 0 0 (t .s0) (t .s1) (omega arith) h₀)
     (word-of m (x .s1) (x .s2) 0 b₂ (t .s1) (t .s2) (x .s1 * b₂) (omega arith) h₁)
     (word-of m (x .s2) (x .s0) b₂ 0 (t .s2) (t .s0) ((x .s2 + x .s0) * b₂) (omega arith) h₂)
 

@@ -89,6 +89,15 @@ fn masked(r: Ring, products: u64, t: u64, tf: u64) -> u64
     r.reduce_sum(products + d)
 }
 
+// z_i in a ring where its products are 0.
+fn mask_alone(r: Ring, t: u64, tf: u64) -> u64
+    requires { ⌜ PairBelow (modulusOf r) (pair t tf) ⌝ }
+    ensures is { λ z. ⌜ z ≡ mask (modulusOf r) (pair t tf) % modulusOf r ⌝ }
+    ensures below { λ z. ⌜ z < modulusOf r ⌝ }
+{
+    r.reduce_pair(mask_word(r.modulus(), t, tf))
+}
+
 // z_0, z_1 and z_2 in a ring, of a bit at place 0 with a bit at place 1.
 pub fn words_of_bits(r: Ring, b0: u64, b1: u64, t: Sharing) -> Sharing
     requires left { ⌜ b0 < 2 ⌝ }
@@ -99,8 +108,8 @@ pub fn words_of_bits(r: Ring, b0: u64, b1: u64, t: Sharing) -> Sharing
 {
     Sharing {
         s0: masked(r, b0 * b1, t.s0, t.s1),
-        s1: masked(r, 0, t.s1, t.s2),
-        s2: masked(r, 0, t.s2, t.s0),
+        s1: mask_alone(r, t.s1, t.s2),
+        s2: mask_alone(r, t.s2, t.s0),
     }
 }
 
@@ -113,7 +122,7 @@ pub fn words_by_bit(r: Ring, x: Sharing, b2: u64, t: Sharing) -> Sharing
     ensures below { λ z. ⌜ InRange (modulusOf r) z ⌝ }
 {
     Sharing {
-        s0: masked(r, 0, t.s0, t.s1),
+        s0: mask_alone(r, t.s0, t.s1),
         s1: masked(r, x.s1 * b2, t.s1, t.s2),
         s2: masked(r, (x.s2 + x.s0) * b2, t.s2, t.s0),
     }

@@ -42,7 +42,9 @@ pub fn see(words: &[u64]) -> Seen
                 sound: false,
             };
         };
-        sound = sound & r.is_sound();
+        if !r.is_sound() {
+            sound = false;
+        }
         i += 1;
     }
     let placed = (words[80] <= MILLION) & ((words[81] <= MILLION) & (words[82] <= MILLION));

@@ -6,6 +6,7 @@ ghost use Rattle.ring.specs.Rings.{modulusOf, widthOf};
 use crate::modular::add_mod;
 use crate::modular::add_turned;
 use crate::modular::mul_mod;
+use crate::modular::reduce_once;
 use crate::modular::reduce_short;
 use crate::modular::reduce_word;
 use crate::modular::sub_mod;
@@ -41,6 +42,15 @@ impl Ring {
         ensures below { λ r. ⌜ r < modulusOf self ⌝ }
     {
         mul_mod(self.width() / 2, self.modulus(), a, b)
+    }
+
+    // s modulo p, of a sum of two numbers below p.
+    pub fn reduce_pair(self, s: u64) -> u64
+        requires { ⌜ s < modulusOf self + modulusOf self ⌝ }
+        ensures is { λ r. ⌜ r ≡ s % modulusOf self ⌝ }
+        ensures below { λ r. ⌜ r < modulusOf self ⌝ }
+    {
+        reduce_once(self.width(), self.modulus(), s)
     }
 
     // s modulo p, of a sum of up to seven numbers below p.

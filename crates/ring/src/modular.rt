@@ -145,7 +145,7 @@ fn fold(e: u64, p: u64, s: u64) -> u64
 }
 
 // s modulo p, of a sum of two numbers below p: with one more, s passes bit e just where p is to be taken away.
-fn reduce_once(e: u64, p: u64, s: u64) -> u64
+pub fn reduce_once(e: u64, p: u64, s: u64) -> u64
     requires modulus { ⌜ p ≡ modulus e ⌝ }
     requires width { ⌜ e < 64 ⌝ }
     requires sum { ⌜ s < p + p ⌝ }

@@ -7,8 +7,8 @@ returns : tie.Need-returns
 returns c =
     let one = c .before in
     let zero = one .before in (
-      each _ (zero .reduce-sum .ensures .0) (one .reduce-sum2 .ensures .0) (c .reduce-sum3 .ensures .0),
-      record { zero = zero .reduce-sum .ensures .1; one = one .reduce-sum2 .ensures .1; two = c .reduce-sum3 .ensures .1 },
+      each _ (zero .reduce-pair .ensures .0) (one .reduce-pair2 .ensures .0) (c .reduce-pair3 .ensures .0),
+      record { zero = zero .reduce-pair .ensures .1; one = one .reduce-pair2 .ensures .1; two = c .reduce-pair3 .ensures .1 },
     )
 
 pub reduce-sums-spec : {M : Type 1} → statement M

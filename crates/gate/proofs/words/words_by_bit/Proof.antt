@@ -19,11 +19,11 @@ pub words-by-bit-spec : {M : Type 1} → statement M
 words-by-bit-spec =
     tie.close
     (tie.spec
-    (λ c κs. omega (arith, modulus-gt (c .args .r)))
+    (λ c κs. search needs)
     (λ c. omega (arith, one c, modulus-lt (c .before .before .args .r)))
     (λ c κs. omega (arith, one c, modulus-gt (c .before .before .args .r)))
     (λ c. omega (arith, modulus-lt (c .before .before .before .before .args .r)))
     (λ c. omega (arith, two (c .before .before .before .before), modulus-lt (c .before .before .before .before .args .r)))
     (λ c κs. omega (arith, two (c .before .before .before .before), modulus-gt (c .before .before .before .before .args .r)))
     (λ c.
-    words-by-bit _ _ _ _ (c .before .before .before .before .masked .ensures) (c .before .before .masked2 .ensures) (c .masked3 .ensures)))
+    words-by-bit _ _ _ _ (c .before .before .before .before .mask-alone .ensures) (c .before .before .masked .ensures) (c .masked2 .ensures)))

@@ -12,6 +12,6 @@ words-of-bits-spec =
     (tie.spec
     (λ c. omega (arith, bit-times-lt (c .pre .0) (c .pre .1 .0)))
     (λ c κs. omega (arith, bit-times-lt (c .pre .0) (c .pre .1 .0), modulus-gt (c .args .r)))
-    (λ c κs. omega (arith, modulus-gt (c .before .args .r)))
-    (λ c κs. omega (arith, modulus-gt (c .before .before .args .r)))
-    (λ c. words-of-bits _ _ _ _ (c .before .before .masked .ensures) (c .before .masked2 .ensures) (c .masked3 .ensures)))
+    (λ c κs. search needs)
+    (λ c κs. search needs)
+    (λ c. words-of-bits _ _ _ _ (c .before .before .masked .ensures) (c .before .mask-alone .ensures) (c .mask-alone2 .ensures)))
