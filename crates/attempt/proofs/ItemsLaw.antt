@@ -19,7 +19,7 @@ use Rattle.machine.specs.Checks.{anyBad, anyOutside}
 use Rattle.machine.proofs.KindLaw.{one-false, other-false}
 
 -- n items against one modulus, from item k on
-pub outside-next : (p n k : ℕ) (items : List ℕ) → k < n
+outside-next : (p n k : ℕ) (items : List ℕ) → k < n
     → anyOutside (replicate (n - k) p) (drop k items) ≡ leb p (getD items k 0) || anyOutside (replicate (n - (k + 1)) p) (drop (k + 1) items)
 unfolding anyOutside
 outside-next p n k items h =
@@ -29,7 +29,7 @@ outside-next p n k items h =
     (getD-drop k items 0 0 ∙ ap (λ (j : ℕ). getD items j 0) (add-zero k)) (drop-drop 1 k items)
 
 -- two words have a bit from j on where one of them has
-pub either-high : (j a b : ℕ) → leb (2 ^ j) (bitOr a b) ≡ leb (2 ^ j) a || leb (2 ^ j) b
+either-high : (j a b : ℕ) → leb (2 ^ j) (bitOr a b) ≡ leb (2 ^ j) a || leb (2 ^ j) b
 either-high j a b = go (leb (2 ^ j) a) (leb (2 ^ j) b) refl refl
   where
     go : (p q : Bool) → leb (2 ^ j) a ≡ p → leb (2 ^ j) b ≡ q → leb (2 ^ j) (bitOr a b) ≡ p || q
@@ -59,22 +59,47 @@ module _ (w p : ℕ) (h : p ≤ 2 ^ 63) where
       go true hw = sym (le-leb p w (omega (arith, h, leb-true (2 ^ 63) w hw)))
       go false hw = below-top (leb-false (2 ^ 63) w hw)
 
--- the words of the first k items together have a bit from j on where one of these is out of range: one more item, and the end
-module _ (j p n k all : ℕ) (items : List ℕ) {b : Bool} (h : b ≡ leb (2 ^ j) all || anyOutside (replicate (n - k) p) (drop k items)) where
-  pub high-on : (x : ℕ) → leb (2 ^ j) x ≡ leb p (getD items k 0) → k < n
-      → b ≡ leb (2 ^ j) (bitOr all x) || anyOutside (replicate (n - (k + 1)) p) (drop (k + 1) items)
-  high-on x is below =
-      let rest : Bool = anyOutside (replicate (n - (k + 1)) p) (drop (k + 1) items) in
-      h ∙ ap (λ (q : Bool). leb (2 ^ j) all || q) (outside-next p n k items below)
-      ∙ sym (or-assoc (leb (2 ^ j) all) (leb p (getD items k 0)) rest)
-      ∙ ap (λ (q : Bool). (leb (2 ^ j) all || q) || rest) (sym is)
-      ∙ ap (λ (q : Bool). q || rest) (sym (either-high j all x))
+sorted : (a₀ a₁ a₂ b₀ b₁ b₂ : Bool) → (a₀ || b₀) || ((a₁ || b₁) || (a₂ || b₂)) ≡ (a₀ || (a₁ || a₂)) || (b₀ || (b₁ || b₂))
+sorted true a₁ a₂ b₀ b₁ b₂ = refl
+sorted false true a₂ true b₁ b₂ = refl
+sorted false true a₂ false b₁ b₂ = refl
+sorted false false true true b₁ b₂ = refl
+sorted false false true false true b₂ = refl
+sorted false false true false false b₂ = refl
+sorted false false false b₀ b₁ b₂ = refl
+
+-- three tapes from item k on
+bad-next : (p n k : ℕ) (t₀ t₁ t₂ : List ℕ) → k < n
+    → anyBad (replicate (n - k) p) (three (drop k t₀) (drop k t₁) (drop k t₂))
+    ≡ (leb p (getD t₀ k 0) || (leb p (getD t₁ k 0) || leb p (getD t₂ k 0)))
+    || anyBad (replicate (n - (k + 1)) p) (three (drop (k + 1) t₀) (drop (k + 1) t₁) (drop (k + 1) t₂))
+unfolding anyBad
+bad-next p n k t₀ t₁ t₂ h =
+    let a : List ℕ → Bool = λ t. leb p (getD t k 0) in
+    let b : List ℕ → Bool = λ t. anyOutside (replicate (n - (k + 1)) p) (drop (k + 1) t) in
+    rw (outside-next p n k t₀ h, outside-next p n k t₁ h, outside-next p n k t₂ h) (sorted (a t₀) (a t₁) (a t₂) (b t₀) (b t₁) (b t₂))
+
+-- the words of the first k items together have a bit from j on where one of these is out of range: one more of each tape, and the end
+module _ (j p n k all : ℕ) (t₀ t₁ t₂ : List ℕ) {b : Bool}
+    (h : b ≡ leb (2 ^ j) all || anyBad (replicate (n - k) p) (three (drop k t₀) (drop k t₁) (drop k t₂))) where
+  pub high-on : (x₀ x₁ x₂ : ℕ) → leb (2 ^ j) x₀ ≡ leb p (getD t₀ k 0) → leb (2 ^ j) x₁ ≡ leb p (getD t₁ k 0) → leb (2 ^ j) x₂ ≡ leb p (getD t₂ k 0)
+      → k < n
+      → b ≡ leb (2 ^ j) (bitOr all (bitOr x₀ (bitOr x₁ x₂)))
+      || anyBad (replicate (n - (k + 1)) p) (three (drop (k + 1) t₀) (drop (k + 1) t₁) (drop (k + 1) t₂))
+  high-on x₀ x₁ x₂ e₀ e₁ e₂ below =
+      let rest : Bool = anyBad (replicate (n - (k + 1)) p) (three (drop (k + 1) t₀) (drop (k + 1) t₁) (drop (k + 1) t₂)) in
+      let item : Bool = leb p (getD t₀ k 0) || (leb p (getD t₁ k 0) || leb p (getD t₂ k 0)) in
+      let high : leb (2 ^ j) (bitOr x₀ (bitOr x₁ x₂)) ≡ item
+      = either-high j x₀ (bitOr x₁ x₂) ∙ ap₂ _||_ e₀ (either-high j x₁ x₂ ∙ ap₂ _||_ e₁ e₂) in
+      h ∙ ap (λ (q : Bool). leb (2 ^ j) all || q) (bad-next p n k t₀ t₁ t₂ below)
+      ∙ sym (or-assoc (leb (2 ^ j) all) item rest)
+      ∙ ap (λ (q : Bool). q || rest) (sym (either-high j all (bitOr x₀ (bitOr x₁ x₂)) ∙ ap (λ (q : Bool). leb (2 ^ j) all || q) high))
 
   pub high-end : n ≤ k → leb (2 ^ j) all ≡ b
-  unfolding anyOutside
+  unfolding anyBad anyOutside
   high-end past =
       let none : n - k ≡ 0 = omega arith in
-      sym (h ∙ ap (λ (i : ℕ). leb (2 ^ j) all || anyOutside (replicate i p) (drop k items)) none ∙ or-false (leb (2 ^ j) all))
+      sym (h ∙ ap (λ (i : ℕ). leb (2 ^ j) all || anyBad (replicate i p) (three (drop k t₀) (drop k t₁) (drop k t₂))) none ∙ or-false (leb (2 ^ j) all))
 
 outside-append : (ms ns items : List ℕ) → anyOutside (ms ++ ns) items ≡ anyOutside ms items || anyOutside ns (drop (length ms) items)
 unfolding anyOutside
@@ -91,15 +116,6 @@ then-outside : (n p : ℕ) (ns items : List ℕ) → anyOutside (replicate n p +
 then-outside n p ns items =
     outside-append (replicate n p) ns items
     ∙ ap (λ (j : ℕ). anyOutside (replicate n p) items || anyOutside ns (drop j items)) (length-replicate n p)
-
-sorted : (a₀ a₁ a₂ b₀ b₁ b₂ : Bool) → (a₀ || b₀) || ((a₁ || b₁) || (a₂ || b₂)) ≡ (a₀ || (a₁ || a₂)) || (b₀ || (b₁ || b₂))
-sorted true a₁ a₂ b₀ b₁ b₂ = refl
-sorted false true a₂ true b₁ b₂ = refl
-sorted false true a₂ false b₁ b₂ = refl
-sorted false false true true b₁ b₂ = refl
-sorted false false true false true b₂ = refl
-sorted false false true false false b₂ = refl
-sorted false false false b₀ b₁ b₂ = refl
 
 module _ (n p : ℕ) (ns t₀ t₁ t₂ : List ℕ) where
   then-bad : anyBad (replicate n p ++ ns) (three t₀ t₁ t₂)
