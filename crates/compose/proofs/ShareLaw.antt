@@ -1,7 +1,7 @@
 -- What the code works out at one place is the definition's share.
 use Prim.Native.Nat.{ℕ, _+_, _*_, _-_, _%_, _<_}
-use mathlib.Core.Path.{_≡_, _∙_}
-use native.Mathlib.Nat.{add-mod-mod, mod-lt}
+use mathlib.Core.Path.{_≡_}
+use native.Mathlib.Nat.{mod-lt}
 use native.Mathlib.Omega.{arith}
 use lib.Bits.{bitXor}
 use Rattle.ring.specs.Modular.{diff}

@@ -1,12 +1,12 @@
 -- The words as the code works them out are the definition's.
 use Prim.Native.Nat.{ℕ, _+_, _*_, _-_, _%_, _<_, _≤_}
-use mathlib.Core.Path.{_≡_, _∙_, ap, refl, sym}
+use mathlib.Core.Path.{_≡_, _∙_, ap, sym}
 use native.Mathlib.Nat.{le-refl, mod-eq-of-lt, mul-le-mul}
 use native.Mathlib.Omega.{arith}
 use lib.Bits.{and-lt, bitAnd, bitXor, xor-lt}
 use Rattle.ring.specs.Modular.{Cong, diff}
 use Rattle.ring.proofs.BitLaw.{and-bit, xor-bit}
-use Rattle.ring.proofs.CongLaw.{cong-add, cong-below, cong-mod, cong-mul, cong-of-eq, cong-refl, cong-sym, cong-trans}
+use Rattle.ring.proofs.CongLaw.{cong-add, cong-mod, cong-mul, cong-of-eq, cong-refl, cong-sym, cong-trans}
 use Rattle.gate.specs.Gates.{crossed, gated, mask, word}
 use Rattle.gate.specs.Places.{InRange, Pair, PairBelow, Place, held, next, p0, p1, p2, pair, parts, sharing, three}
 use Rattle.gate.specs.declared.sharing.Sharing.{Sharing}

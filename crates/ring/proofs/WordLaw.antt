@@ -8,8 +8,7 @@ use lib.Dec.{lit<}
 use lib.Pow.{high, mod-mod-pow, mod-pow-add, ones-lt, ones-split, pow-mono, pow-pos, shl-exact, shl-shr}
 use Rattle.ring.specs.Modular.{Cong}
 use Rattle.ring.specs.Rings.{modulus, turned}
-use Rattle.ring.proofs.CongLaw.{cong-of-eq, cong-trans, cong-sym}
-use Rattle.ring.proofs.Theorems.{folds, modulus-suc, next-power, odd-power, product}
+use Rattle.ring.proofs.Theorems.{modulus-suc, next-power, odd-power, product}
 
 -- a one that is shifted within a word
 pub shifted-one : (k : ℕ) → k < 64 → (1 * 2 ^ k) % 2 ^ 64 ≡ 2 ^ k

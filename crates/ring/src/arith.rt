@@ -1,6 +1,6 @@
 // Sums, differences, products, remainders and four times, in a ring.
 ghost use mathlib.Core.Path.{_≡_};
-ghost use Prim.Native.Nat.{_+_, _*_, _%_, _<_, _≤_, _^_};
+ghost use Prim.Native.Nat.{_+_, _*_, _%_, _<_, _^_};
 ghost use Rattle.ring.specs.Modular.{Cong, diff};
 ghost use Rattle.ring.specs.Rings.{modulusOf, widthOf};
 use crate::modular::add_mod;
@@ -70,16 +70,6 @@ impl Ring {
         reduce_word(self.width(), self.modulus(), a)
     }
 
-    // 2^k × a modulo p.
-    pub fn turn(self, k: u64, a: u64) -> u64
-        requires places { ⌜ k ≤ widthOf self ⌝ }
-        requires number { ⌜ a < modulusOf self ⌝ }
-        ensures is { λ r. ⌜ r ≡ 2 ^ k * a % modulusOf self ⌝ }
-        ensures below { λ r. ⌜ r < modulusOf self ⌝ }
-    {
-        turn_mod(self.width(), self.modulus(), k, a)
-    }
-
     // s + 2^k × a modulo p, not reduced, of numbers that need not be.
     pub fn add_turned(self, k: u64, a: u64, s: u64) -> u64
         requires places { ⌜ k < widthOf self ⌝ }
@@ -97,6 +87,6 @@ impl Ring {
         ensures is { λ r. ⌜ r ≡ 4 * a % modulusOf self ⌝ }
         ensures below { λ r. ⌜ r < modulusOf self ⌝ }
     {
-        self.turn(2, a)
+        turn_mod(self.width(), self.modulus(), 2, a)
     }
 }

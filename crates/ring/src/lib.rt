@@ -8,6 +8,5 @@ pub use bits::bit;
 pub use modular::add_mod;
 pub use modular::mul_add_mod;
 pub use modular::mul_mod;
-pub use modular::sub_mod;
 pub use rings::OfWidth;
 pub use rings::Ring;

@@ -1,6 +1,5 @@
 -- Each place adds its own share.
 use native.Mathlib.Omega.{arith}
-use borrow.Author.Needs.{needs}
 use Rattle.ring.proofs.RangeLaw.{modulus-gt}
 use Rattle.gate.proofs.PlaceLaw.{each}
 use Rattle.compose.proofs.bits.add_weighted.Statement.{statement}

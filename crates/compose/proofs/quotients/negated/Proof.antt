@@ -2,7 +2,6 @@
 use Prim.Native.Nat.{ℕ, _-_, _%_}
 use mathlib.Core.Path.{_≡_}
 use native.Mathlib.Omega.{arith}
-use borrow.Author.Needs.{needs}
 use lib.Bits.{and-mask, bitAnd}
 use Rattle.ring.specs.Modular.{diff}
 use Rattle.compose.proofs.quotients.negated.Statement.{statement}

@@ -1,4 +1,3 @@
-use borrow.Author.Needs.{needs}
 use native.Mathlib.Omega.{arith}
 use Rattle.gate.proofs.WordLaw.{mask-near}
 use Rattle.gate.proofs.words.mask_word.Statement.{statement}

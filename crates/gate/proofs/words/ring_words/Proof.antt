@@ -1,5 +1,4 @@
 use borrow.Author.Needs.{needs}
-use native.Mathlib.Omega.{arith}
 use Rattle.gate.proofs.WordLaw.{words-hold}
 use Rattle.gate.proofs.words.ring_words.Statement.{statement}
 use Rattle.gate.proofs.words.ring_words.Tie as tie

@@ -1,5 +1,4 @@
 -- The turned number is at most p and its half, so one fold brings the sum below 2p.
-use borrow.Author.Needs.{needs}
 use Prim.Native.Nat.{_+_, _*_, _/_, _^_, _<_, _≤_}
 use native.Mathlib.Nat.{le-refl, mul-le-mul}
 use native.Mathlib.Omega.{arith}

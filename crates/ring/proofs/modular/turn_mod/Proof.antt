@@ -1,5 +1,4 @@
 -- A turn of the e bits left by k is 2^k times at every width.
-use borrow.Author.Needs.{needs}
 use Prim.Native.Nat.{_*_, _%_, _^_, _<_}
 use mathlib.Core.Path.{_≡_, _∙_}
 use native.Mathlib.Omega.{arith}
