@@ -108,21 +108,20 @@ fn left(length: usize, at: u64) -> u64 {
     (length as u64).saturating_sub(at)
 }
 
+/// All words of three tapes united, each as `seen` makes it: one pass, and no word is tested by itself.
+fn united([t0, t1, t2]: [&[u64]; 3], seen: impl Fn(u64) -> u64) -> u64 {
+    let words = t0.iter().zip(t1).zip(t2);
+    words.fold(0, |all, ((&a, &b), &c)| all | seen(a) | seen(b) | seen(c))
+}
+
 /// Whether an item is no bit.
 fn any_wider(tapes: [&[u64]; 3]) -> bool {
-    let united = |tape: &[u64]| tape.iter().fold(0, |all, &item| all | item);
-    let [u0, u1, u2] = tapes.map(united);
-    u0 | u1 | u2 > 1
+    united(tapes, |item| item) > 1
 }
 
 /// Whether an item is p or more: it has a bit from e up, or the number after it has.
 fn any_outside(r: Ring, tapes: [&[u64]; 3]) -> bool {
-    let united = |tape: &[u64]| {
-        let bits = tape.iter().map(|&item| item | item.wrapping_add(1));
-        bits.fold(0, |all, bits| all | bits)
-    };
-    let [u0, u1, u2] = tapes.map(united);
-    u0 | u1 | u2 > r.p
+    united(tapes, |item| item | item.wrapping_add(1)) > r.p
 }
 
 /// Checks 8, 9, 11 and 10 for gates on bits and then in ring r; the runs from the positions on.
@@ -142,7 +141,7 @@ fn supply<'a>(
     let from = record[MASKS_AT] as usize;
     let masks = runs.masks.map(|tape| &tape[from..from + n]);
     let outside = any_wider(masks.map(|tape| &tape[..middle]))
-        || any_outside(r, masks.map(|tape| &tape[middle..]));
+        | any_outside(r, masks.map(|tape| &tape[middle..]));
     refuse_if(outside, 10)?;
     let from = record[CHANNELS_AT] as usize;
     let channels = runs.channels.map(|channel| &mut channel[from..from + n]);

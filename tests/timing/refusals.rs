@@ -1,8 +1,8 @@
-//! Every refusal that an order of each kind can meet, but 1, 7 of a deal and 10, which test secrets; and words in no layout.
+//! Every refusal that an order of each kind can meet, but 1 and a deal's 7 and 10, which test secrets; and words in no layout.
 
 use crate::cases::{At, Case, ANSWER, CHANNELS, DEALER, MASKS, ORDER, RECORD};
 use crate::orders::{usual, BITS, EMPTY, OF_OTHER_RING, SPARE, X};
-use crate::words::Word::{self, Any, Public};
+use crate::words::Word::{self, Any, Below, Public};
 use reference::layout::MALFORMED;
 use reference::record::LIMIT;
 use reference::ring::Ring;
@@ -90,6 +90,23 @@ fn by_runs(case: &Case, kind: u64) -> Vec<Case> {
     }
 }
 
+/// What check 10 refuses: the first item of the first tape or the last of the last, whatever the others are.
+fn by_item(case: &Case) -> Vec<Case> {
+    let taken = |word: &Word| matches!(word, Below(_));
+    let tape = case.runs[MASKS.start].words.iter();
+    let places = [tape.clone().position(taken), tape.clone().rposition(taken)];
+    let refused = |(run, at): (usize, Option<usize>)| {
+        let at = at?;
+        Some(
+            case.refused(10, &format!("word {at} of run {run}"), |case| {
+                case.runs[run].words[at] = Public(u64::MAX);
+            }),
+        )
+    };
+    let runs = [MASKS.start, MASKS.end - 1];
+    runs.into_iter().zip(places).filter_map(refused).collect()
+}
+
 /// Lengths and registers that are in no layout.
 fn malformed(case: &Case) -> Vec<Case> {
     let length = |k: usize, lent: usize| {
@@ -122,7 +139,7 @@ fn of_kind(kind: u64, ring: Ring) -> Vec<Case> {
     let by_fields = fields(kind, ring)
         .into_iter()
         .map(|field| by_field(&case, field));
-    [by_fields.collect(), by_runs(&case, kind)].concat()
+    [by_fields.collect(), by_runs(&case, kind), by_item(&case)].concat()
 }
 
 /// Kinds that are none, and an opening with more than its field.

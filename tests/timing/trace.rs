@@ -80,6 +80,7 @@ pub fn run(
         scope.spawn(|| output.unwrap().read_to_end(&mut written));
         cut(trace, mark.as_bytes(), take)
     })?;
-    child.wait()?;
+    let status = child.wait()?;
+    assert!(status.success(), "the traced caller: {status}");
     Ok((written, lines))
 }

@@ -134,7 +134,8 @@ pub record Reached (m from count : ℕ) (w : Sharing) (t₀ t₁ t₂ c₀ c₁ 
   pub most : k ≤ count
   pub weighs : Cong m (2 ^ j) (2 ^ k)
   pub range : InRange (m + m) sum
-  pub summed : Summed (composeGates wordBit m from k) (tabled (λ i. summingStart (parts w i))) (three t₀ t₁ t₂) (three c₀ c₁ c₂) (λ i. parts sum i % m) (three d₀ d₁ d₂)
+  pub summed : Summed (composeGates wordBit m from k) (tabled (λ i. summingStart (parts w i)))
+      (three t₀ t₁ t₂) (three c₀ c₁ c₂) (λ i. parts sum i % m) (three d₀ d₁ d₂)
 
 pub at-start : (m from count : ℕ) {w none : Sharing} {t₀ t₁ t₂ c₀ c₁ c₂ : List ℕ}
     → 1 < m → none ≡ zeros → Reached m from count w t₀ t₁ t₂ c₀ c₁ c₂ 0 0 none c₀ c₁ c₂

@@ -1,5 +1,5 @@
-// Arithmetic modulo p = 2^e - 1: the numbers are below p, and so are the results. They may be secret, so nothing here branches:
-// shifts and masks stay what they are, while a compiler may make a jump of an `if` that picks one of two numbers.
+// Arithmetic modulo p = 2^e - 1: numbers and results are below p unless a contract says otherwise. They may be secret, so nothing
+// here branches: shifts and masks stay what they are, while a compiler may make a jump of an `if` that picks one of two numbers.
 ghost use mathlib.Core.Path.{_≡_};
 ghost use Prim.Native.Nat.{_+_, _*_, _/_, _%_, _<_, _≤_, _^_};
 ghost use Rattle.ring.specs.Modular.{Cong, diff};

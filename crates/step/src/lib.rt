@@ -47,7 +47,7 @@ pub fn decide(
     let w = way_of(found, o);
     match w {
         Way::Deal { d, e, v } => deal(s, found.dealer_at, d, e, v, dealer),
-        Way::Attempt { d, t } => attempt(at, ch, d, t, m0, m1, m2, c0, c1, c2),
+        Way::Attempt(d, t) => attempt(at, ch, d, t, m0, m1, m2, c0, c1, c2),
         Way::Open { x } => open(s, x, a, ch, c0, c1, c2),
     }
 }

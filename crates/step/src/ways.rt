@@ -14,10 +14,10 @@ use order::multiply;
 use order::scale;
 use order::shift;
 
-// Orders 2 to 8 meet in one, so that they are attempted at one place.
+// Orders 2 to 8 meet in one, with their destination, so that they are attempted at one place.
 pub enum Way {
     Deal { d: u64, e: u64, v: u64 },
-    Attempt { d: u64, t: Prepared },
+    Attempt(u64, Prepared),
     Open { x: u64 },
 }
 
@@ -31,34 +31,13 @@ pub fn way_of(found: Found, o: Order) -> Way
     let b = found.b;
     match o {
         Order::Deal { d, e, v } => Way::Deal { d, e, v },
-        Order::Add { d, x, y } => Way::Attempt {
-            d,
-            t: add(s, d, x, y, a, b),
-        },
-        Order::Scale { d, x, c } => Way::Attempt {
-            d,
-            t: scale(s, d, x, c, a),
-        },
-        Order::Multiply { d, x, y } => Way::Attempt {
-            d,
-            t: multiply(s, d, x, y, a, b),
-        },
-        Order::Decompose { d, x, l } => Way::Attempt {
-            d,
-            t: decompose(s, d, x, l, a),
-        },
-        Order::Convert { d, x, f } => Way::Attempt {
-            d,
-            t: convert(s, d, x, f, a),
-        },
-        Order::Shift { d, x, s: n } => Way::Attempt {
-            d,
-            t: shift(s, d, x, n, a),
-        },
-        Order::Compose { d, x, f } => Way::Attempt {
-            d,
-            t: compose(s, d, x, f, a),
-        },
+        Order::Add { d, x, y } => Way::Attempt(d, add(s, d, x, y, a, b)),
+        Order::Scale { d, x, c } => Way::Attempt(d, scale(s, d, x, c, a)),
+        Order::Multiply { d, x, y } => Way::Attempt(d, multiply(s, d, x, y, a, b)),
+        Order::Decompose { d, x, l } => Way::Attempt(d, decompose(s, d, x, l, a)),
+        Order::Convert { d, x, f } => Way::Attempt(d, convert(s, d, x, f, a)),
+        Order::Shift { d, x, s: n } => Way::Attempt(d, shift(s, d, x, n, a)),
+        Order::Compose { d, x, f } => Way::Attempt(d, compose(s, d, x, f, a)),
         Order::Open { x } => Way::Open { x },
     }
 }

@@ -36,9 +36,10 @@ returns c =
     let taken2 = last .before .before .before .before in
     let first = taken2 .before .before .before .before .before .before .before in
     let taken = first .before .before .before .before in
-    let pre = taken .before .before .before .before .before .before .before .pre in (
-      bit-joined (omega (arith, modulus-gt (taken .before .before .before .before .before .before .before .args .r))) (long-less (omega arith) (pre .1 .1 .1)) (long-on 1 1 (room taken2)) (taken .items-at .ensures) (taken2 .items-at2 .ensures)
-          (first .join-first .ensures .0) (last .join-last .ensures .0),
+    let start = taken .before .before .before .before .before .before .before in
+    let pre = start .pre in (
+      bit-joined (omega (arith, modulus-gt (start .args .r))) (long-less (omega arith) (pre .1 .1 .1)) (long-on 1 1 (room taken2))
+          (taken .items-at .ensures) (taken2 .items-at2 .ensures) (first .join-first .ensures .0) (last .join-last .ensures .0),
       last .join-last .ensures .1,
     )
 

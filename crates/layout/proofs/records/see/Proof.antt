@@ -49,7 +49,9 @@ again c =
     let is : c .if2 .sound ≡ head .sound && tested .is-sound .result
     = ⊎-elim (λ p. p .1 ∙ fails (head .sound) (not-true _ (p .0 .taken))) (λ p. p .1 ∙ holds (head .sound) (not-false _ (p .0 .left))) (c .if2 .came) in (
       omega arith,
-      rw is (one-passed _ (head .i) _ (turn .loop-test .taken) (head .inv .1) (sym (called .read-register .ensures) ∙ tested .before .before .r .given .1) (tested .is-sound .ensures)),
+      rw is
+          (one-passed _ (head .i) _ (turn .loop-test .taken) (head .inv .1)
+          (sym (called .read-register .ensures) ∙ tested .before .before .r .given .1) (tested .is-sound .ensures)),
     )
 
 whole : tie.Need-returns-3 Inv-loop μ-loop

@@ -13,7 +13,8 @@ fits c κs =
     let r = c .before .before .args .self in
     let known = sized r (c .before .width .ensures) (c .modulus .ensures) in
     let eight : 8 ≤ 2 ^ c .before .width .result = pow-mono {i = 3} (omega (arith, known)) in
-    (known .is, ((omega (arith, known), known .most), (omega (arith, c .modulus .ensures, mul-le-mul (le-refl (c .modulus .result)) eight), omega (arith, modulus-lt r))))
+    let short = mul-le-mul (le-refl (c .modulus .result)) eight in
+    (known .is, ((omega (arith, known), known .most), (omega (arith, c .modulus .ensures, short), omega (arith, modulus-lt r))))
 
 pub reduce-sum-spec : {M : Type 1} → statement M
 reduce-sum-spec =
