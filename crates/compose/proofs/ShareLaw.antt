@@ -16,15 +16,15 @@ use Rattle.compose.specs.Quotients.{quotientWith}
 use Rattle.compose.specs.Steps.{Joined}
 
 -- u + v - 2uv
-pub join-is : (n u v uv : ℕ) {m : ℕ} → m ≡ n → uv < n → Joined n u v uv (u + v + 2 * (m - uv))
-join-is n u v uv {m} known small =
+pub join-is : (n u v uv : ℕ) → uv < n → Joined n u v uv (u + v + 2 * (n - uv))
+join-is n u v uv small =
     let pos : 0 < n = omega arith in
     let h : ℕ = u + v + 2 * (n - uv) in
     let back : h + 2 * uv ≡ u + v + n * 2 = omega arith in
     let same : h % n ≡ joined n u v uv
     = diff-only (2 * uv) pos (mod-lt h pos)
     (cong-trans (cong-add (cong-mod n h) (cong-refl (2 * uv))) (cong-trans (cong-of-eq back) (cong-multiple n (u + v) 2))) in
-    rw known (record { near = cong-trans (cong-sym (cong-mod n h)) (cong-of-eq same); most = omega arith })
+    record { near = cong-trans (cong-sym (cong-mod n h)) (cong-of-eq same); most = omega arith }
 
 -- 4^(-1) × (x - p q)
 pub quartered-is : (n k p x q : ℕ) {y j pq rest r : ℕ} → 0 < n

@@ -3,7 +3,7 @@ ghost use mathlib.Core.Path.{_≡_};
 ghost use Prim.Native.Nat.{_+_, _*_, _%_, _<_, _≤_, _^_};
 ghost use Rattle.gate.specs.Places.{InRange, Place, parts, tabled, three};
 ghost use Rattle.ring.specs.Modular.{Cong};
-ghost use Rattle.ring.specs.Rings.{bitOf, modulusOf, widthOf};
+ghost use Rattle.ring.specs.Rings.{Sized, bitOf, modulus, modulusOf, widthOf};
 ghost use Rattle.circuit.specs.Compose.{composeGates, summingStart};
 ghost use Rattle.circuit.specs.Lent.{ItemsBelow, Left, Long};
 ghost use Rattle.circuit.specs.Orders.{composition, wordBit};
@@ -15,34 +15,39 @@ use gate::Sharing;
 use gate::ring_gate_by_bit;
 use gate::ring_gate_of_bits;
 use ring::Ring;
+use ring::add_turned;
 use ring::bit;
+use ring::reduce_once;
 
 // u + v - 2uv of one place, not reduced, uv being the gate's word.
-fn join_share(r: Ring, u: u64, v: u64, uv: u64) -> u64
-    requires left { ⌜ u < 2 * modulusOf r + 2 ⌝ }
+fn join_share(p: u64, u: u64, v: u64, uv: u64) -> u64
+    requires room { ⌜ p < 2 ^ 61 ⌝ }
+    requires left { ⌜ u < 2 * p + 2 ⌝ }
     requires right { ⌜ v < 2 ⌝ }
-    requires product { ⌜ uv < modulusOf r ⌝ }
-    ensures { λ h. ⌜ Joined (modulusOf r) u v uv h ⌝ }
+    requires product { ⌜ uv < p ⌝ }
+    ensures { λ h. ⌜ Joined p u v uv h ⌝ }
 {
-    u + v + 2 * (r.modulus() - uv)
+    u + v + 2 * (p - uv)
 }
 
 // The same at each place, z being the words of the gate.
-fn join_shares(r: Ring, u: Sharing, v: Sharing, z: Sharing) -> Sharing
-    requires left { ⌜ InRange (2 * modulusOf r + 2) u ⌝ }
+fn join_shares(p: u64, u: Sharing, v: Sharing, z: Sharing) -> Sharing
+    requires room { ⌜ p < 2 ^ 61 ⌝ }
+    requires left { ⌜ InRange (2 * p + 2) u ⌝ }
     requires right { ⌜ InRange 2 v ⌝ }
-    requires product { ⌜ InRange (modulusOf r) z ⌝ }
-    ensures { λ h. ⌜ ((i : Place) → Joined (modulusOf r) (parts u i) (parts v i) (parts z i) (parts h i)) ⌝ }
+    requires product { ⌜ InRange p z ⌝ }
+    ensures { λ h. ⌜ ((i : Place) → Joined p (parts u i) (parts v i) (parts z i) (parts h i)) ⌝ }
 {
-    let s0 = join_share(r, u.s0, v.s0, z.s0);
-    let s1 = join_share(r, u.s1, v.s1, z.s1);
-    let s2 = join_share(r, u.s2, v.s2, z.s2);
+    let s0 = join_share(p, u.s0, v.s0, z.s0);
+    let s1 = join_share(p, u.s1, v.s1, z.s1);
+    let s2 = join_share(p, u.s2, v.s2, z.s2);
     Sharing { s0, s1, s2 }
 }
 
 // Sub-share 0 of bit j of w with sub-share 1; what they give is not reduced.
 fn join_first(
-    r: Ring,
+    e: u64,
+    p: u64,
     w: Sharing,
     j: u64,
     t: Sharing,
@@ -50,15 +55,16 @@ fn join_first(
     c1: &mut [u64],
     c2: &mut [u64],
 ) -> Sharing
+    requires sized { ⌜ Sized e p ⌝ }
     requires place { ⌜ j < 64 ⌝ }
-    requires items { ⌜ InRange (modulusOf r) t ⌝ }
+    requires items { ⌜ InRange p t ⌝ }
     requires room { ⌜ Long 1 (now c0) (now c1) (now c2) ⌝ }
-    ensures is { λ h. ⌜ Joins (modulusOf r) (three (bitOf (w .s0) j) 0 0) (three 0 (bitOf (w .s1) j) 0) (parts t) (three (now (c0 .entry)) (now (c1 .entry)) (now (c2 .entry))) h (three (now (c0 .exit)) (now (c1 .exit)) (now (c2 .exit))) ⌝ }
-    ensures below { λ h. ⌜ InRange (2 * modulusOf r + 2) h ⌝ }
+    ensures is { λ h. ⌜ Joins p (three (bitOf (w .s0) j) 0 0) (three 0 (bitOf (w .s1) j) 0) (parts t) (three (now (c0 .entry)) (now (c1 .entry)) (now (c2 .entry))) h (three (now (c0 .exit)) (now (c1 .exit)) (now (c2 .exit))) ⌝ }
+    ensures below { λ h. ⌜ InRange (2 * p + 2) h ⌝ }
 {
     let b0 = bit(w.s0, j);
     let b1 = bit(w.s1, j);
-    let z = ring_gate_of_bits(r, b0, b1, t, c0, c1, c2);
+    let z = ring_gate_of_bits(e, p, b0, b1, t, c0, c1, c2);
     let u = Sharing {
         s0: b0,
         s1: 0,
@@ -69,12 +75,13 @@ fn join_first(
         s1: b1,
         s2: 0,
     };
-    join_shares(r, u, v, z)
+    join_shares(p, u, v, z)
 }
 
 // What these give with sub-share 2, not reduced.
 fn join_last(
-    r: Ring,
+    e: u64,
+    p: u64,
     w: Sharing,
     j: u64,
     half: Sharing,
@@ -83,26 +90,28 @@ fn join_last(
     c1: &mut [u64],
     c2: &mut [u64],
 ) -> Sharing
+    requires sized { ⌜ Sized e p ⌝ }
     requires place { ⌜ j < 64 ⌝ }
-    requires half { ⌜ InRange (2 * modulusOf r + 2) half ⌝ }
-    requires items { ⌜ InRange (modulusOf r) t ⌝ }
+    requires half { ⌜ InRange (2 * p + 2) half ⌝ }
+    requires items { ⌜ InRange p t ⌝ }
     requires room { ⌜ Long 1 (now c0) (now c1) (now c2) ⌝ }
-    ensures is { λ h. ⌜ Joins (modulusOf r) (parts half) (three 0 0 (bitOf (w .s2) j)) (parts t) (three (now (c0 .entry)) (now (c1 .entry)) (now (c2 .entry))) h (three (now (c0 .exit)) (now (c1 .exit)) (now (c2 .exit))) ⌝ }
-    ensures below { λ h. ⌜ InRange (4 * modulusOf r + 4) h ⌝ }
+    ensures is { λ h. ⌜ Joins p (parts half) (three 0 0 (bitOf (w .s2) j)) (parts t) (three (now (c0 .entry)) (now (c1 .entry)) (now (c2 .entry))) h (three (now (c0 .exit)) (now (c1 .exit)) (now (c2 .exit))) ⌝ }
+    ensures below { λ h. ⌜ InRange (4 * p + 4) h ⌝ }
 {
     let b2 = bit(w.s2, j);
-    let z = ring_gate_by_bit(r, half, b2, t, c0, c1, c2);
+    let z = ring_gate_by_bit(e, p, half, b2, t, c0, c1, c2);
     let v = Sharing {
         s0: 0,
         s1: 0,
         s2: b2,
     };
-    join_shares(r, half, v, z)
+    join_shares(p, half, v, z)
 }
 
 // The ring shares of bit j of w, not reduced: sub-share 0 with 1, then with 2.
 fn join_bit(
-    r: Ring,
+    e: u64,
+    p: u64,
     w: Sharing,
     j: u64,
     m0: &[u64],
@@ -112,54 +121,67 @@ fn join_bit(
     c1: &mut [u64],
     c2: &mut [u64],
 ) -> Sharing
+    requires sized { ⌜ Sized e p ⌝ }
     requires place { ⌜ j < 64 ⌝ }
     requires masks { ⌜ Long 2 (now m0) (now m1) (now m2) ⌝ }
-    requires items { ⌜ ItemsBelow (modulusOf r) 2 (now m0) (now m1) (now m2) ⌝ }
+    requires items { ⌜ ItemsBelow p 2 (now m0) (now m1) (now m2) ⌝ }
     requires room { ⌜ Long 2 (now c0) (now c1) (now c2) ⌝ }
-    ensures is { λ b. ⌜ JoinsBit (modulusOf r) j (parts w) (three (now (m0 .entry)) (now (m1 .entry)) (now (m2 .entry))) (three (now (c0 .entry)) (now (c1 .entry)) (now (c2 .entry))) (parts b) (three (now (c0 .exit)) (now (c1 .exit)) (now (c2 .exit))) ⌝ }
-    ensures below { λ b. ⌜ InRange (4 * modulusOf r + 4) b ⌝ }
+    ensures is { λ b. ⌜ JoinsBit p j (parts w) (three (now (m0 .entry)) (now (m1 .entry)) (now (m2 .entry))) (three (now (c0 .entry)) (now (c1 .entry)) (now (c2 .entry))) (parts b) (three (now (c0 .exit)) (now (c1 .exit)) (now (c2 .exit))) ⌝ }
+    ensures below { λ b. ⌜ InRange (4 * p + 4) b ⌝ }
 {
     let t0 = items_at(m0, m1, m2, 0);
-    let half = join_first(r, w, j, t0, c0, c1, c2);
+    let half = join_first(e, p, w, j, t0, c0, c1, c2);
     let t1 = items_at(m0, m1, m2, 1);
-    join_last(r, w, j, half, t1, &mut c0[1..], &mut c1[1..], &mut c2[1..])
+    join_last(
+        e,
+        p,
+        w,
+        j,
+        half,
+        t1,
+        &mut c0[1..],
+        &mut c1[1..],
+        &mut c2[1..],
+    )
 }
 
 // sum + 2^j × b, not reduced.
-fn add_weighted(r: Ring, sum: Sharing, j: u64, b: Sharing) -> Sharing
-    requires sum { ⌜ InRange (modulusOf r + modulusOf r) sum ⌝ }
-    requires weight { ⌜ j < widthOf r ⌝ }
-    requires bit { ⌜ InRange (4 * modulusOf r + 4) b ⌝ }
-    ensures is { λ z. ⌜ ((i : Place) → Cong (modulusOf r) (parts z i) (parts sum i + 2 ^ j * parts b i)) ⌝ }
-    ensures below { λ z. ⌜ InRange (modulusOf r + modulusOf r) z ⌝ }
+fn add_weighted(e: u64, p: u64, sum: Sharing, j: u64, b: Sharing) -> Sharing
+    requires sized { ⌜ Sized e p ⌝ }
+    requires sum { ⌜ InRange (p + p) sum ⌝ }
+    requires weight { ⌜ j < e ⌝ }
+    requires bit { ⌜ InRange (4 * p + 4) b ⌝ }
+    ensures is { λ z. ⌜ ((i : Place) → Cong p (parts z i) (parts sum i + 2 ^ j * parts b i)) ⌝ }
+    ensures below { λ z. ⌜ InRange (p + p) z ⌝ }
 {
-    let s0 = r.add_turned(j, b.s0, sum.s0);
-    let s1 = r.add_turned(j, b.s1, sum.s1);
-    let s2 = r.add_turned(j, b.s2, sum.s2);
+    let s0 = add_turned(e, p, j, b.s0, sum.s0);
+    let s1 = add_turned(e, p, j, b.s1, sum.s1);
+    let s2 = add_turned(e, p, j, b.s2, sum.s2);
     Sharing { s0, s1, s2 }
 }
 
 // The power of two after 2^j, modulo p: 2^e is 1.
-fn next_power(r: Ring, j: u64) -> u64
-    requires { ⌜ j < widthOf r ⌝ }
-    ensures is { λ n. ⌜ Cong (modulusOf r) (2 ^ n) (2 ^ (j + 1)) ⌝ }
-    ensures below { λ n. ⌜ n < widthOf r ⌝ }
+fn next_power(e: u64, j: u64) -> u64
+    requires { ⌜ j < e ⌝ }
+    ensures is { λ n. ⌜ Cong (modulus e) (2 ^ n) (2 ^ (j + 1)) ⌝ }
+    ensures below { λ n. ⌜ n < e ⌝ }
 {
-    if j + 1 == r.width() {
+    if j + 1 == e {
         return 0;
     }
     j + 1
 }
 
 // The sums, reduced.
-fn reduce_sums(r: Ring, sum: Sharing) -> Sharing
-    requires { ⌜ InRange (modulusOf r + modulusOf r) sum ⌝ }
-    ensures is { λ z. ⌜ ((i : Place) → parts z i ≡ parts sum i % modulusOf r) ⌝ }
-    ensures below { λ z. ⌜ InRange (modulusOf r) z ⌝ }
+fn reduce_sums(e: u64, p: u64, sum: Sharing) -> Sharing
+    requires sized { ⌜ Sized e p ⌝ }
+    requires sum { ⌜ InRange (p + p) sum ⌝ }
+    ensures is { λ z. ⌜ ((i : Place) → parts z i ≡ parts sum i % p) ⌝ }
+    ensures below { λ z. ⌜ InRange p z ⌝ }
 {
-    let s0 = r.reduce_pair(sum.s0);
-    let s1 = r.reduce_pair(sum.s1);
-    let s2 = r.reduce_pair(sum.s2);
+    let s0 = reduce_once(e, p, sum.s0);
+    let s1 = reduce_once(e, p, sum.s1);
+    let s2 = reduce_once(e, p, sum.s2);
     Sharing { s0, s1, s2 }
 }
 
@@ -183,12 +205,15 @@ pub fn compose_bits(
     ensures is { λ z. ⌜ Summed (composeGates wordBit (modulusOf r) from count) (tabled (λ i. summingStart (parts w i))) (three (now (m0 .entry)) (now (m1 .entry)) (now (m2 .entry))) (three (now (c0 .entry)) (now (c1 .entry)) (now (c2 .entry))) (parts z) (three (now (c0 .exit)) (now (c1 .exit)) (now (c2 .exit))) ⌝ }
     ensures below { λ z. ⌜ InRange (modulusOf r) z ⌝ }
 {
+    let e = r.width();
+    let p = r.modulus();
     let mut sum = zeros();
     let mut power = 0;
     for k in 0..count {
         let at = (2 * k) as usize;
         let b = join_bit(
-            r,
+            e,
+            p,
             w,
             from + k,
             &m0[at..],
@@ -198,10 +223,10 @@ pub fn compose_bits(
             &mut c1[at..],
             &mut c2[at..],
         );
-        sum = add_weighted(r, sum, power, b);
-        power = next_power(r, power);
+        sum = add_weighted(e, p, sum, power, b);
+        power = next_power(e, power);
     }
-    reduce_sums(r, sum)
+    reduce_sums(e, p, sum)
 }
 
 // Order 8: all l bits of w.

@@ -2,13 +2,14 @@
 ghost use mathlib.Core.Path.{_≡_};
 ghost use Prim.Native.Nat.{_+_, _*_, _%_, _<_, _≤_, _^_};
 ghost use Rattle.ring.specs.Modular.{Cong};
-ghost use Rattle.ring.specs.Rings.{modulus, modulusOf};
+ghost use Rattle.ring.specs.Rings.{Sized, modulus};
 ghost use Rattle.gate.specs.Gates.{gated, mask, word};
 ghost use Rattle.gate.specs.Places.{InRange, PairBelow, pair, parts, sharing, three};
 use crate::sharing::Sharing;
-use ring::Ring;
 use ring::add_mod;
 use ring::mul_add_mod;
+use ring::reduce_once;
+use ring::reduce_short;
 
 // t_i - t_(i+1) modulo p, not reduced.
 fn mask_word(p: u64, t: u64, tf: u64) -> u64
@@ -78,52 +79,56 @@ pub fn bit_words(x: Sharing, y: Sharing, t: Sharing) -> Sharing
     }
 }
 
-// z_i in a ring, from its products and the items.
-fn masked(r: Ring, products: u64, t: u64, tf: u64) -> u64
-    requires products { ⌜ products < 5 * modulusOf r ⌝ }
-    requires items { ⌜ PairBelow (modulusOf r) (pair t tf) ⌝ }
-    ensures is { λ z. ⌜ z ≡ (products + mask (modulusOf r) (pair t tf)) % modulusOf r ⌝ }
-    ensures below { λ z. ⌜ z < modulusOf r ⌝ }
+// z_i modulo p = 2^e - 1, from its products and the items.
+fn masked(e: u64, p: u64, products: u64, t: u64, tf: u64) -> u64
+    requires sized { ⌜ Sized e p ⌝ }
+    requires products { ⌜ products < 5 * p ⌝ }
+    requires items { ⌜ PairBelow p (pair t tf) ⌝ }
+    ensures is { λ z. ⌜ z ≡ (products + mask p (pair t tf)) % p ⌝ }
+    ensures below { λ z. ⌜ z < p ⌝ }
 {
-    let d = mask_word(r.modulus(), t, tf);
-    r.reduce_sum(products + d)
+    let d = mask_word(p, t, tf);
+    reduce_short(e, p, products + d)
 }
 
-// z_i in a ring where its products are 0.
-fn mask_alone(r: Ring, t: u64, tf: u64) -> u64
-    requires { ⌜ PairBelow (modulusOf r) (pair t tf) ⌝ }
-    ensures is { λ z. ⌜ z ≡ mask (modulusOf r) (pair t tf) % modulusOf r ⌝ }
-    ensures below { λ z. ⌜ z < modulusOf r ⌝ }
+// z_i where its products are 0.
+fn mask_alone(e: u64, p: u64, t: u64, tf: u64) -> u64
+    requires sized { ⌜ Sized e p ⌝ }
+    requires items { ⌜ PairBelow p (pair t tf) ⌝ }
+    ensures is { λ z. ⌜ z ≡ mask p (pair t tf) % p ⌝ }
+    ensures below { λ z. ⌜ z < p ⌝ }
 {
-    r.reduce_pair(mask_word(r.modulus(), t, tf))
+    reduce_once(e, p, mask_word(p, t, tf))
 }
 
-// z_0, z_1 and z_2 in a ring, of a bit at place 0 with a bit at place 1.
-pub fn words_of_bits(r: Ring, b0: u64, b1: u64, t: Sharing) -> Sharing
+// z_0, z_1 and z_2 modulo p = 2^e - 1, of a bit at place 0 with a bit at place 1.
+pub fn words_of_bits(e: u64, p: u64, b0: u64, b1: u64, t: Sharing) -> Sharing
+    requires sized { ⌜ Sized e p ⌝ }
     requires left { ⌜ b0 < 2 ⌝ }
     requires right { ⌜ b1 < 2 ⌝ }
-    requires items { ⌜ InRange (modulusOf r) t ⌝ }
-    ensures is { λ z. ⌜ z ≡ sharing (gated (modulusOf r) (three b0 0 0) (three 0 b1 0) (parts t)) ⌝ }
-    ensures below { λ z. ⌜ InRange (modulusOf r) z ⌝ }
+    requires items { ⌜ InRange p t ⌝ }
+    ensures is { λ z. ⌜ z ≡ sharing (gated p (three b0 0 0) (three 0 b1 0) (parts t)) ⌝ }
+    ensures below { λ z. ⌜ InRange p z ⌝ }
 {
     Sharing {
-        s0: masked(r, b0 * b1, t.s0, t.s1),
-        s1: mask_alone(r, t.s1, t.s2),
-        s2: mask_alone(r, t.s2, t.s0),
+        s0: masked(e, p, b0 * b1, t.s0, t.s1),
+        s1: mask_alone(e, p, t.s1, t.s2),
+        s2: mask_alone(e, p, t.s2, t.s0),
     }
 }
 
-// z_0, z_1 and z_2 in a ring, of x, which need not be reduced, with a bit at place 2.
-pub fn words_by_bit(r: Ring, x: Sharing, b2: u64, t: Sharing) -> Sharing
-    requires left { ⌜ InRange (2 * modulusOf r + 2) x ⌝ }
+// z_0, z_1 and z_2 modulo p = 2^e - 1, of x, which need not be reduced, with a bit at place 2.
+pub fn words_by_bit(e: u64, p: u64, x: Sharing, b2: u64, t: Sharing) -> Sharing
+    requires sized { ⌜ Sized e p ⌝ }
+    requires left { ⌜ InRange (2 * p + 2) x ⌝ }
     requires right { ⌜ b2 < 2 ⌝ }
-    requires items { ⌜ InRange (modulusOf r) t ⌝ }
-    ensures is { λ z. ⌜ z ≡ sharing (gated (modulusOf r) (parts x) (three 0 0 b2) (parts t)) ⌝ }
-    ensures below { λ z. ⌜ InRange (modulusOf r) z ⌝ }
+    requires items { ⌜ InRange p t ⌝ }
+    ensures is { λ z. ⌜ z ≡ sharing (gated p (parts x) (three 0 0 b2) (parts t)) ⌝ }
+    ensures below { λ z. ⌜ InRange p z ⌝ }
 {
     Sharing {
-        s0: mask_alone(r, t.s0, t.s1),
-        s1: masked(r, x.s1 * b2, t.s1, t.s2),
-        s2: masked(r, (x.s2 + x.s0) * b2, t.s2, t.s0),
+        s0: mask_alone(e, p, t.s0, t.s1),
+        s1: masked(e, p, x.s1 * b2, t.s1, t.s2),
+        s2: masked(e, p, (x.s2 + x.s0) * b2, t.s2, t.s0),
     }
 }

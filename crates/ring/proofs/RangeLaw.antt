@@ -2,11 +2,12 @@
 use Prim.Native.Nat.{ℕ, _+_, _*_, _/_, _<_, _≤_, _^_}
 use mathlib.Core.Bool.{Bool, cond, false, true}
 use mathlib.Core.Path.{_≡_, refl, ap, _∙_}
+use native.Mathlib.Nat.{le-refl, mul-le-mul}
 use native.Mathlib.Omega.{arith}
 use borrow.Author.Tests.{eqb-true}
 use lib.Dec.{eqb, lit≤}
 use lib.Pow.{pow-mono}
-use Rattle.ring.specs.Rings.{modulus, modulusOf, quarterOf, ringOf, widthOf}
+use Rattle.ring.specs.Rings.{Sized, modulus, modulusOf, quarterOf, ringOf, widthOf}
 use Rattle.ring.specs.declared.rings.OfWidth.the-variants.{Named, NoRing}
 use Rattle.ring.specs.declared.rings.Ring.{Ring}
 use Rattle.ring.specs.declared.rings.Ring.the-variants.{R13, R31, R61}
@@ -50,16 +51,23 @@ modulus-gt r = omega (arith, modulus-suc (widthOf r), pow-mono {i = 13} {j = wid
 pub quarter-lt : (r : Ring) → quarterOf r < modulusOf r
 quarter-lt r = quarter-below (widthOf r) (omega (arith, width-ge r))
 
--- what the arithmetic on numbers asks of e and p
-pub record Sized (e p : ℕ) : Type 0 where
-  pub is : p ≡ modulus e
-  pub least : 13 ≤ e
-  pub most : e < 64
-
+-- the same of a width and a modulus as numbers
 pub sized : (r : Ring) {e p : ℕ} → e ≡ widthOf r → p ≡ modulusOf r → Sized e p
 sized r he hp = record { is = rw he hp; least = omega (arith, width-ge r); most = omega (arith, width-le r) }
 
--- and of k = e / 2 and p
+pub sized-lt : {e p : ℕ} → Sized e p → p < 2 ^ 61
+sized-lt {e} h = omega (arith, h, modulus-suc e, pow-mono {i = e} {j = 61} (h .most))
+
+pub sized-gt : {e p : ℕ} → Sized e p → 2 ^ 12 < p
+sized-gt {e} h = omega (arith, h, modulus-suc e, pow-mono {i = 13} {j = e} (h .least))
+
+-- seven times p has few bits above bit e
+pub few-above : {e p : ℕ} (s : ℕ) → Sized e p → s < 7 * p → (s < p * 2 ^ e) × (s < 15 * 2 ^ 60)
+few-above {e} {p} s h sum =
+    let eight : 8 ≤ 2 ^ e = pow-mono {i = 3} (omega (arith, h)) in
+    (omega (arith, mul-le-mul (le-refl p) eight), omega (arith, sized-lt h))
+
+-- what the product asks of k = e / 2 and p
 pub record Halved (k p : ℕ) : Type 0 where
   pub is : p ≡ modulus (2 * k + 1)
   pub least : 2 ≤ k

@@ -1,6 +1,7 @@
 -- 01, "Rings, parts and units": each ring has its width e and its modulus p = 2^e - 1.
-use Prim.Native.Nat.{ℕ, _+_, _*_, _-_, _/_, _%_, _^_}
+use Prim.Native.Nat.{ℕ, _+_, _*_, _-_, _/_, _%_, _≤_, _^_}
 use mathlib.Core.Bool.{cond}
+use mathlib.Core.Path.{_≡_}
 use lib.Dec.{eqb}
 use Rattle.ring.specs.declared.rings.OfWidth.{OfWidth}
 use Rattle.ring.specs.declared.rings.OfWidth.the-variants.{Named, NoRing}
@@ -38,3 +39,9 @@ quarterOf r = quarter (widthOf r)
 -- the ring of a width, where there is one
 unfoldable pub ringOf : ℕ → OfWidth
 ringOf e = cond (eqb e 13) (Named R13) (cond (eqb e 31) (Named R31) (cond (eqb e 61) (Named R61) NoRing))
+
+-- a width and a modulus as numbers: what code that is lent both knows of them. Used by contracts alone
+pub record Sized (e p : ℕ) : Type 0 where
+  pub is : p ≡ modulus e
+  pub least : 13 ≤ e
+  pub most : e ≤ 61

@@ -1,12 +1,10 @@
 // Sums, differences, products, remainders and four times, in a ring.
 ghost use mathlib.Core.Path.{_≡_};
-ghost use Prim.Native.Nat.{_+_, _*_, _%_, _<_, _^_};
-ghost use Rattle.ring.specs.Modular.{Cong, diff};
-ghost use Rattle.ring.specs.Rings.{modulusOf, widthOf};
+ghost use Prim.Native.Nat.{_+_, _*_, _%_, _<_};
+ghost use Rattle.ring.specs.Modular.{diff};
+ghost use Rattle.ring.specs.Rings.{modulusOf};
 use crate::modular::add_mod;
-use crate::modular::add_turned;
 use crate::modular::mul_mod;
-use crate::modular::reduce_once;
 use crate::modular::reduce_short;
 use crate::modular::reduce_word;
 use crate::modular::sub_mod;
@@ -44,15 +42,6 @@ impl Ring {
         mul_mod(self.width() / 2, self.modulus(), a, b)
     }
 
-    // s modulo p, of a sum of two numbers below p.
-    pub fn reduce_pair(self, s: u64) -> u64
-        requires { ⌜ s < modulusOf self + modulusOf self ⌝ }
-        ensures is { λ r. ⌜ r ≡ s % modulusOf self ⌝ }
-        ensures below { λ r. ⌜ r < modulusOf self ⌝ }
-    {
-        reduce_once(self.width(), self.modulus(), s)
-    }
-
     // s modulo p, of a sum of up to seven numbers below p.
     pub fn reduce_sum(self, s: u64) -> u64
         requires { ⌜ s < 7 * modulusOf self ⌝ }
@@ -68,17 +57,6 @@ impl Ring {
         ensures below { λ r. ⌜ r < modulusOf self ⌝ }
     {
         reduce_word(self.width(), self.modulus(), a)
-    }
-
-    // s + 2^k × a modulo p, not reduced, of numbers that need not be.
-    pub fn add_turned(self, k: u64, a: u64, s: u64) -> u64
-        requires places { ⌜ k < widthOf self ⌝ }
-        requires number { ⌜ a < 5 * modulusOf self ⌝ }
-        requires sum { ⌜ s < modulusOf self + modulusOf self ⌝ }
-        ensures is { λ r. ⌜ Cong (modulusOf self) r (s + 2 ^ k * a) ⌝ }
-        ensures below { λ r. ⌜ r < modulusOf self + modulusOf self ⌝ }
-    {
-        add_turned(self.width(), self.modulus(), k, a, s)
     }
 
     // 4 a modulo p: the e bits of a, turned left by two.

@@ -3,7 +3,7 @@
 ghost use mathlib.Core.Path.{_≡_};
 ghost use Prim.Native.Nat.{_+_, _*_, _/_, _%_, _<_, _≤_, _^_};
 ghost use Rattle.ring.specs.Modular.{Cong, diff};
-ghost use Rattle.ring.specs.Rings.{modulus, turned};
+ghost use Rattle.ring.specs.Rings.{Sized, modulus, turned};
 
 // a + b modulo p.
 pub fn add_mod(e: u64, p: u64, a: u64, b: u64) -> u64
@@ -91,8 +91,7 @@ pub fn turn_mod(e: u64, p: u64, k: u64, a: u64) -> u64
 
 // s + 2^k × a modulo p, not reduced, of numbers that need not be.
 pub fn add_turned(e: u64, p: u64, k: u64, a: u64, s: u64) -> u64
-    requires modulus { ⌜ p ≡ modulus e ⌝ }
-    requires width { ⌜ (13 ≤ e) × (e ≤ 61) ⌝ }
+    requires sized { ⌜ Sized e p ⌝ }
     requires places { ⌜ k < e ⌝ }
     requires number { ⌜ a < 5 * p ⌝ }
     requires sum { ⌜ s < p + p ⌝ }

@@ -1,6 +1,6 @@
 -- Each place adds its own share.
 use native.Mathlib.Omega.{arith}
-use Rattle.ring.proofs.RangeLaw.{modulus-gt}
+use Rattle.ring.proofs.RangeLaw.{sized-gt}
 use Rattle.gate.proofs.PlaceLaw.{each}
 use Rattle.compose.proofs.bits.add_weighted.Statement.{statement}
 use Rattle.compose.proofs.bits.add_weighted.Tie as tie
@@ -17,7 +17,7 @@ pub add-weighted-spec : {M : Type 1} → statement M
 add-weighted-spec =
     tie.close
     (tie.spec
-    (λ c κs. omega (arith, modulus-gt (c .args .r)))
-    (λ c κs. omega (arith, modulus-gt (c .before .args .r)))
-    (λ c κs. omega (arith, modulus-gt (c .before .before .args .r)))
+    (λ c κs. omega (arith, c .pre .0, sized-gt (c .pre .0)))
+    (λ c κs. omega (arith, c .before .pre .0, sized-gt (c .before .pre .0)))
+    (λ c κs. omega (arith, c .before .before .pre .0, sized-gt (c .before .before .pre .0)))
     returns)

@@ -1,7 +1,7 @@
 -- A bit is below every modulus.
 use native.Mathlib.Omega.{arith}
 use borrow.Author.Needs.{needs}
-use Rattle.ring.proofs.RangeLaw.{modulus-gt}
+use Rattle.ring.proofs.RangeLaw.{sized-gt, sized-lt}
 use Rattle.gate.specs.Places.{p0, p1, p2}
 use Rattle.compose.proofs.StepLaw.{joins}
 use Rattle.compose.proofs.bits.join_first.Statement.{statement}
@@ -10,9 +10,13 @@ use Rattle.compose.proofs.bits.join_first.Tie as tie
 fits : tie.Need-join-shares-requires
 fits c κs =
     let called = c .before .before .before .before .before .before in
-    let wide = modulus-gt (called .before .before .before .before .before .before .before .before .before .args .r) in (
-      record { zero = omega arith; one = omega arith; two = omega arith },
-      (record { zero = omega arith; one = omega arith; two = omega arith }, called .ring-gate-of-bits .ensures .1 .0),
+    let known = called .before .before .before .before .before .before .before .before .before .pre .0 in
+    let wide = sized-gt known in (
+      sized-lt known,
+      (
+        record { zero = omega arith; one = omega arith; two = omega arith },
+        (record { zero = omega arith; one = omega arith; two = omega arith }, called .ring-gate-of-bits .ensures .1 .0),
+      ),
     )
 
 returns : tie.Need-returns

@@ -2,28 +2,27 @@
 use borrow.Author.Needs.{needs}
 use Prim.Native.Nat.{_+_, _*_, _<_}
 use native.Mathlib.Omega.{arith}
-use Rattle.ring.specs.Rings.{modulusOf}
-use Rattle.ring.proofs.RangeLaw.{modulus-gt, modulus-lt}
+use Rattle.ring.proofs.RangeLaw.{sized-gt, sized-lt}
 use Rattle.gate.proofs.WordLaw.{bit-times-lt, words-by-bit}
 use Rattle.gate.proofs.words.words_by_bit.Statement.{statement}
 use Rattle.gate.proofs.words.words_by_bit.Tie as tie
 
 -- x_1 and x_2 + x_0, times the bit
-one : (c : tie.After-struct-known) → c .before .before .args .x .s1 * c .before .before .args .b2 < 2 * modulusOf (c .before .before .args .r) + 2
-one c = bit-times-lt (c .before .before .pre .0 .one) (c .before .before .pre .1 .0)
+one : (c : tie.After-struct-known) → c .before .before .args .x .s1 * c .before .before .args .b2 < 2 * c .before .before .args .p + 2
+one c = bit-times-lt (c .before .before .pre .1 .0 .one) (c .before .before .pre .1 .1 .0)
 
-two : (c : tie.Start) → (c .args .x .s2 + c .args .x .s0) * c .args .b2 < 4 * modulusOf (c .args .r) + 4
-two c = bit-times-lt (omega (arith, c .pre .0)) (c .pre .1 .0)
+two : (c : tie.Start) → (c .args .x .s2 + c .args .x .s0) * c .args .b2 < 4 * c .args .p + 4
+two c = bit-times-lt (omega (arith, c .pre .1 .0)) (c .pre .1 .1 .0)
 
 pub words-by-bit-spec : {M : Type 1} → statement M
 words-by-bit-spec =
     tie.close
     (tie.spec
     (λ c κs. search needs)
-    (λ c. omega (arith, one c, modulus-lt (c .before .before .args .r)))
-    (λ c κs. omega (arith, one c, modulus-gt (c .before .before .args .r)))
-    (λ c. omega (arith, modulus-lt (c .before .before .before .before .args .r)))
-    (λ c. omega (arith, two (c .before .before .before .before), modulus-lt (c .before .before .before .before .args .r)))
-    (λ c κs. omega (arith, two (c .before .before .before .before), modulus-gt (c .before .before .before .before .args .r)))
+    (λ c. omega (arith, one c, sized-lt (c .before .before .pre .0)))
+    (λ c κs. omega (arith, one c, sized-gt (c .before .before .pre .0)))
+    (λ c. omega (arith, sized-lt (c .before .before .before .before .pre .0)))
+    (λ c. omega (arith, two (c .before .before .before .before), sized-lt (c .before .before .before .before .pre .0)))
+    (λ c κs. omega (arith, two (c .before .before .before .before), sized-gt (c .before .before .before .before .pre .0)))
     (λ c.
     words-by-bit _ _ _ _ (c .before .before .before .before .mask-alone .ensures) (c .before .before .masked .ensures) (c .masked2 .ensures)))

@@ -12,12 +12,12 @@ use Rattle.ring.proofs.modular.add_turned.Statement.{statement}
 use Rattle.ring.proofs.modular.add_turned.Tie as tie
 
 most : (c : tie.Start) → turned (c .args .e) (c .args .k) (c .args .a) ≤ c .args .p + c .args .a / 2
-most c = omega (arith, turned-le (c .args .e) (c .args .k) (c .args .a) (c .pre .1 .1 .0), c .pre .0)
+most c = omega (arith, turned-le (c .args .e) (c .args .k) (c .args .a) (c .pre .1 .0), c .pre .0 .is)
 
 -- p is below 2^61 and 2^e is 8 or more
 sizes : (c : tie.Start) → (c .args .p + 1 ≤ 2 ^ 61) × (8 ≤ 2 ^ c .args .e)
 sizes c = (
-  omega (arith, modulus-suc (c .args .e), c .pre .0, pow-mono {i = c .args .e} {j = 61} (c .pre .1 .0 .1)),
+  omega (arith, modulus-suc (c .args .e), c .pre .0 .is, pow-mono {i = c .args .e} {j = 61} (c .pre .0 .most)),
   pow-mono {i = 3} {j = c .args .e} (omega arith),
 )
 
@@ -31,18 +31,18 @@ returns c =
     let start = c .before .before in
     let a = start .args in
     let turns : Cong (a .p) (turned (a .e) (a .k) (a .a)) (2 ^ a .k * a .a)
-    = rw (start .pre .0) (turned-cong (a .e) (a .k) (a .a) (omega arith)) in
+    = rw (start .pre .0 .is) (turned-cong (a .e) (a .k) (a .a) (omega arith)) in
     let sum : Cong (a .p) (a .s + c .before .turn-word .result) (a .s + 2 ^ a .k * a .a)
     = rw (c .before .turn-word .ensures) (cong-add (cong-refl (a .s)) turns) in (
-      folded-near _ _ (a .s + c .before .turn-word .result) (a .s + 2 ^ a .k * a .a) (start .pre .0) (c .fold .ensures) sum,
-      rw (c .fold .ensures) (fold-lt _ _ _ (start .pre .0) (room (c .before))),
+      folded-near _ _ (a .s + c .before .turn-word .result) (a .s + 2 ^ a .k * a .a) (start .pre .0 .is) (c .fold .ensures) sum,
+      rw (c .fold .ensures) (fold-lt _ _ _ (start .pre .0 .is) (room (c .before))),
     )
 
 pub add-turned-spec : {M : Type 1} → statement M
 add-turned-spec =
     tie.close
     (tie.spec
-    (λ c κs. (c .pre .0, (omega arith, (omega arith, omega (arith, most c, sizes c)))))
+    (λ c κs. (c .pre .0 .is, (omega arith, (omega arith, omega (arith, most c, sizes c)))))
     (λ c. omega (arith, most (c .before), sizes (c .before), c .turn-word .ensures))
-    (λ c κs. (c .before .pre .0, omega arith))
+    (λ c κs. (c .before .pre .0 .is, omega arith))
     returns)
