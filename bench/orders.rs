@@ -6,7 +6,7 @@ use crate::measure::{measure, row};
 use crate::steps::Case;
 use jobs::draw::Draw;
 use jobs::orders::{needs, Needs};
-use plain::step::Runs;
+use plain::layout::survey_step;
 use reference::layout::{read_order, record_words, step_words, ANSWER_WORDS};
 use reference::machine::Lent;
 use reference::record::{Record, Register};
@@ -25,12 +25,9 @@ const POSITIONS: [u64; 3] = [3, 5, 7];
 type Step = fn(&[u64], &mut [u64], &mut Lent, &mut [u64]) -> u64;
 
 fn plain_step(order: &[u64], record: &mut [u64], lent: &mut Lent, answer: &mut [u64]) -> u64 {
-    let runs = Runs {
-        masks: lent.masks,
-        dealer: lent.dealer,
-        channels: lent.channels.each_mut().map(|channel| &mut channel[..]),
-    };
-    plain::layout::step_words(order, record, runs, answer)
+    let [m0, m1, m2] = lent.masks;
+    let [c0, c1, c2] = &mut lent.channels;
+    survey_step(order, record, m0, m1, m2, lent.dealer, c0, c1, c2, answer)
 }
 
 /// Each row with its order: number sources 0 and 1 are of ring 61, 2 of ring 31; 4 and 5 are bits.

@@ -13,8 +13,21 @@ fn read_order(words: &[u64]) -> Option<Order> {
     }
 }
 
-/// One order on the words of a record; MALFORMED changes nothing.
-pub fn step_words(order: &[u64], record: &mut [u64], runs: Runs, answer: &mut [u64]) -> u64 {
+/// One order on the words of a record, by the call that the library exports: a slice is passed as its address and its length.
+/// MALFORMED changes nothing.
+#[allow(improper_ctypes_definitions)]
+pub extern "C" fn survey_step(
+    order: &[u64],
+    record: &mut [u64],
+    m0: &[u64],
+    m1: &[u64],
+    m2: &[u64],
+    dealer: &[u64],
+    c0: &mut [u64],
+    c1: &mut [u64],
+    c2: &mut [u64],
+    answer: &mut [u64],
+) -> u64 {
     let (Ok(record), Ok(answer)) = (
         <&mut Record>::try_from(record),
         <&mut [u64; 3]>::try_from(answer),
@@ -23,6 +36,11 @@ pub fn step_words(order: &[u64], record: &mut [u64], runs: Runs, answer: &mut [u
     };
     let (Some(sound), Some(order)) = (soundness(record), read_order(order)) else {
         return MALFORMED;
+    };
+    let runs = Runs {
+        masks: [m0, m1, m2],
+        dealer,
+        channels: [c0, c1, c2],
     };
     let given = if sound {
         step(record, order, runs)
