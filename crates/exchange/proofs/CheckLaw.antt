@@ -19,19 +19,11 @@ use Rattle.order.specs.Attempts.{beginChecks}
 use Rattle.order.specs.Changes.{Changes}
 use Rattle.order.specs.Tasks.{Seated}
 use Rattle.order.specs.declared.changes.Change.the-variants as change
-use Rattle.order.proofs.CheckLaw.{unmet, unmet-rest}
+use Rattle.order.proofs.CheckLaw.{met, passed, unmet, unmet-rest}
 use Rattle.order.proofs.SoundLaw.{seated}
 use Rattle.order.proofs.VerdictLaw.{numbered}
 
--- a check that is met, and one that is not
-pub met : {b : Bool} (n : ℕ) (cs : List Check) → b ≡ true → n ≡ firstMet (check b n ∷ cs)
-unfolding firstMet
-met n cs e = sym (ap (λ (b : Bool). cond b n (firstMet cs)) e)
-
-pub passed : {b : Bool} {v : ℕ} (n : ℕ) (cs : List Check) → b ≡ false → v ≡ firstMet cs → v ≡ firstMet (check b n ∷ cs)
-unfolding firstMet
-passed n cs e h = h ∙ sym (ap (λ (b : Bool). cond b n (firstMet cs)) e)
-
+-- a last check that is not met
 pub last-passed : {b : Bool} (n : ℕ) → b ≡ false → 0 ≡ firstMet (check b n ∷ [])
 unfolding firstMet
 last-passed n e = sym (ap (λ (b : Bool). cond b n 0) e)

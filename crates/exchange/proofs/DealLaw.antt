@@ -29,10 +29,10 @@ use Rattle.machine.specs.declared.registers.Register.the-variants.{Empty, Numbe
 use Rattle.order.specs.Answers.{refusalOf}
 use Rattle.order.specs.Changes.{Changes}
 use Rattle.order.specs.declared.changes.Change.the-variants as change
-use Rattle.order.proofs.CheckLaw.{unmet, unmet-rest}
+use Rattle.order.proofs.CheckLaw.{met, passed, unmet, unmet-rest}
 use Rattle.machine.proofs.KindLaw.{one-false, other-false}
 use Rattle.exchange.specs.Exchanges.{Dealing, dealChecks, dealtRegister, numberChecks}
-use Rattle.exchange.proofs.CheckLaw.{begun, last-passed, met, others, passed, step-performed, step-refused, there}
+use Rattle.exchange.proofs.CheckLaw.{begun, last-passed, others, step-performed, step-refused, there}
 
 -- past the end of a tape
 pub past-end : (l : List ℕ) (at k : ℕ) → length l ≤ at + k → 0 ≡ getD (drop at l) k 0

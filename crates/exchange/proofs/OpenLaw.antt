@@ -28,12 +28,12 @@ use Rattle.order.specs.Answers.{refusalOf}
 use Rattle.order.specs.Attempts.{Sources}
 use Rattle.order.specs.Changes.{Changes, applied}
 use Rattle.order.specs.declared.changes.Change.the-variants as change
-use Rattle.order.proofs.CheckLaw.{unmet, unmet-rest}
+use Rattle.order.proofs.CheckLaw.{met, passed, unmet, unmet-rest}
 use Rattle.order.proofs.PrepareLaw.{kind-of}
 use Rattle.machine.proofs.KindLaw.{one-false, other-false}
 use Rattle.order.proofs.SoundLaw.{register-sound}
 use Rattle.exchange.specs.Exchanges.{channelChecks, openChecks}
-use Rattle.exchange.proofs.CheckLaw.{begun, good, last-passed, met, others, passed, step-performed, step-refused, there}
+use Rattle.exchange.proofs.CheckLaw.{begun, good, last-passed, others, step-performed, step-refused, there}
 
 -- room for a word at a position, one check after another
 module _ (l₀ l₁ l₂ at : ℕ) where

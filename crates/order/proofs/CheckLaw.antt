@@ -30,6 +30,15 @@ joined (k ∷ ks) ls h = go (k .met) (eqb (k .refusal) 0) refl h (joined ks ls)
     go true true e h rest = elim h [ ]
     go false true e h rest = elim h [ ]
 
+-- a check that is met, and one that is not
+pub met : {b : Bool} (n : ℕ) (cs : List Check) → b ≡ true → n ≡ firstMet (check b n ∷ cs)
+unfolding firstMet
+met n cs e = sym (ap (λ (b : Bool). cond b n (firstMet cs)) e)
+
+pub passed : {b : Bool} {v : ℕ} (n : ℕ) (cs : List Check) → b ≡ false → v ≡ firstMet cs → v ≡ firstMet (check b n ∷ cs)
+unfolding firstMet
+passed n cs e h = h ∙ sym (ap (λ (b : Bool). cond b n (firstMet cs)) e)
+
 -- a check that does not refuse is not met
 pub unmet : (b : Bool) (n : ℕ) (cs : List Check) → eqb n 0 ≡ false → firstMet (check b n ∷ cs) ≡ 0 → b ≡ false
 unfolding firstMet

@@ -22,27 +22,35 @@ use ring::Ring;
 fn begin(sound: bool, d: u64, x: u64, y: u64) -> Verdict
     ensures { λ v. ⌜ verdictOf v ≡ firstMet (beginChecks sound (d ∷ x ∷ y ∷ [])) ⌝ }
 {
-    let unsound = refuse_if(!sound, Refusal::Unsound);
+    if !sound {
+        return Verdict::Because(Refusal::Unsound);
+    }
     let above = (15 < d) | ((15 < x) | (15 < y));
-    unsound.then(refuse_if(above, Refusal::NoRegister))
+    refuse_if(above, Refusal::NoRegister)
 }
 
 // Checks 3, 4 and 6 of two sources.
 fn two_numbers(x: Register, y: Register) -> Verdict
     ensures { λ v. ⌜ verdictOf v ≡ firstMet (twoNumbers (kindOf x) (kindOf y)) ⌝ }
 {
-    let empty = refuse_if(x.is_empty() | y.is_empty(), Refusal::EmptySource);
-    let bits = refuse_if(x.is_bits() | y.is_bits(), Refusal::WrongKind);
-    let differ = x.width() != y.width();
-    empty.then(bits.then(refuse_if(differ, Refusal::RingsDiffer)))
+    if x.is_empty() | y.is_empty() {
+        return Verdict::Because(Refusal::EmptySource);
+    }
+    if x.is_bits() | y.is_bits() {
+        return Verdict::Because(Refusal::WrongKind);
+    }
+    refuse_if(x.width() != y.width(), Refusal::RingsDiffer)
 }
 
 // Checks 3 and 4 of a source that must be a number.
 fn a_number(x: Register) -> Verdict
     ensures { λ v. ⌜ verdictOf v ≡ firstMet (aNumber (kindOf x)) ⌝ }
 {
-    let empty = refuse_if(x.is_empty(), Refusal::EmptySource);
-    empty.then(refuse_if(x.is_bits(), Refusal::WrongKind))
+    match x {
+        Register::Empty => Verdict::Because(Refusal::EmptySource),
+        Register::Number(_, _) => Verdict::Fine,
+        Register::Bits(_, _) => Verdict::Because(Refusal::WrongKind),
+    }
 }
 
 // Whether a width names no ring.
@@ -98,7 +106,11 @@ pub fn ring_named(e: u64) -> Ring
 pub fn pair_why(sound: bool, d: u64, x: u64, y: u64, a: Register, b: Register) -> Verdict
     ensures { λ v. ⌜ verdictOf v ≡ firstMet (beginChecks sound (d ∷ x ∷ y ∷ []) ++ twoNumbers (kindOf a) (kindOf b)) ⌝ }
 {
-    begin(sound, d, x, y).then(two_numbers(a, b))
+    let first = begin(sound, d, x, y);
+    match first {
+        Verdict::Because(w) => Verdict::Because(w),
+        Verdict::Fine => two_numbers(a, b),
+    }
 }
 
 // And of an order on one number, with a check of its own last.

@@ -1,18 +1,20 @@
-use mathlib.Core.Path.{refl}
 use borrow.Author.Needs.{needs}
-use Rattle.order.proofs.VerdictLaw.{one-check, then-check}
+use Rattle.machine.specs.Checks.{firstMet}
 use Rattle.order.proofs.verdicts.a_number.Statement.{statement}
 use Rattle.order.proofs.verdicts.a_number.Tie as tie
 
-returns : tie.Need-returns
-returns c =
-    let bits = c .before .before in
-    let empty = bits .before in
-    then-check _ _ (c .then .ensures) (empty .refuse-if .ensures) (empty .before .is-empty .ensures) refl
-    (one-check _ (c .before .refuse-if2 .ensures) (bits .is-bits .ensures))
+empty : tie.Need-returns
+unfolding firstMet
+empty c = rw (c .enum-told .given .1)
+
+number : tie.Need-returns-2
+unfolding firstMet
+number c = rw (c .enum-told2 .given .1)
+
+bits : tie.Need-returns-3
+unfolding firstMet
+bits c = rw (c .enum-told3 .given .1)
 
 pub a-number-spec : {M : Type 1} → statement M
 a-number-spec =
-    tie.close
-    (tie.spec (λ c κs. search needs) (λ c κs. search needs) (λ c κs. search needs) (λ c κs. search needs)
-    (λ c κs. search needs) returns)
+    tie.close (tie.spec (λ c. search needs) (λ c. search needs) (λ c. search needs) empty number bits)

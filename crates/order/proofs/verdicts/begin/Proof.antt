@@ -1,22 +1,20 @@
 use mathlib.Core.Bool.{Bool, or-false, _||_}
-use mathlib.Core.Path.{refl, ap, sym}
+use mathlib.Core.Path.{ap, sym}
 use borrow.Author.Needs.{needs}
 use lib.Dec.{ltb}
 use Rattle.machine.specs.Checks.{anyAbove15}
-use Rattle.order.proofs.VerdictLaw.{one-check, then-check}
+use Rattle.order.proofs.CheckLaw.{met, passed}
+use Rattle.order.proofs.VerdictLaw.{one-check}
 use Rattle.order.proofs.verdicts.begin.Statement.{statement}
 use Rattle.order.proofs.verdicts.begin.Tie as tie
 
-returns : tie.Need-returns
+above : tie.Need-returns-2
 unfolding anyAbove15
-returns c =
-    let first = c .before .before in
-    let start = first .before in
-    then-check _ _ (c .then .ensures) (first .refuse-if .ensures) refl refl
-    (one-check _ (c .before .refuse-if2 .ensures)
-    (ap (λ (b : Bool). ltb 15 (start .args .d) || (ltb 15 (start .args .x) || b)) (sym (or-false (ltb 15 (start .args .y))))))
+above c =
+    let a = c .before .before .args in
+    passed 1 _ (c .before .if1 .left)
+    (one-check _ (c .refuse-if .ensures)
+    (ap (λ (b : Bool). ltb 15 (a .d) || (ltb 15 (a .x) || b)) (sym (or-false (ltb 15 (a .y))))))
 
 pub begin-spec : {M : Type 1} → statement M
-begin-spec =
-    tie.close
-    (tie.spec (λ c κs. search needs) (λ c κs. search needs) (λ c κs. search needs) returns)
+begin-spec = tie.close (tie.spec (λ c. met 1 _ (c .if1 .taken)) (λ c κs. search needs) above)
