@@ -2,10 +2,12 @@
 
 use crate::measure::{measure, row};
 use jobs::draw::Draw;
+use std::cell::RefCell;
 use std::hint::black_box;
 
 const WIDTHS: [u64; 3] = [13, 31, 61];
-const ELEMENTS: usize = 1024;
+/// No power of two: a load waits for a store that lies whole pages away.
+const ELEMENTS: usize = 1000;
 const ROUNDS: usize = 401;
 const TURNS: usize = 50;
 
@@ -142,7 +144,7 @@ fn compare_ranges(draw: &mut Draw, width: u64) {
     }
 }
 
-/// Nanoseconds for one element.
+/// Nanoseconds for one element. The sides write to the same words: how fast a loop is goes by where its slices lie, too.
 fn times(mut ours: impl FnMut(), mut theirs: impl FnMut()) -> Vec<f64> {
     let times = measure(ROUNDS, TURNS, &mut [&mut ours, &mut theirs]);
     times.iter().map(|time| time / ELEMENTS as f64).collect()
@@ -150,10 +152,11 @@ fn times(mut ours: impl FnMut(), mut theirs: impl FnMut()) -> Vec<f64> {
 
 fn multiplication(draw: &mut Draw, width: u64) -> Vec<f64> {
     let (xs, ys) = (&words(draw, width, ELEMENTS), &words(draw, width, ELEMENTS));
+    let zs = &RefCell::new(vec![0; ELEMENTS]);
     let side = |multiply: Multiply| {
-        let mut zs = vec![0; ELEMENTS];
         move || {
-            let zs = black_box(&mut zs);
+            let mut zs = zs.borrow_mut();
+            let zs = black_box(&mut zs[..]);
             black_box(multiply(black_box(width), black_box(xs), black_box(ys), zs));
         }
     };
@@ -162,11 +165,12 @@ fn multiplication(draw: &mut Draw, width: u64) -> Vec<f64> {
 
 fn gate(draw: &mut Draw, width: u64) -> Vec<f64> {
     let given = &chain(draw, width);
+    let channels = &RefCell::new([0; 3].map(|_| vec![0; ELEMENTS]));
     let side = |gates: Gates| {
-        let mut channels = [0; 3].map(|_| vec![0; ELEMENTS]);
         move || {
             let given = black_box(given).each_ref().map(|run| &run[..]);
-            let channels = black_box(&mut channels).each_mut().map(|c| &mut c[..]);
+            let mut channels = channels.borrow_mut();
+            let channels = black_box(&mut *channels).each_mut().map(|c| &mut c[..]);
             black_box(gates(black_box(width), given, channels));
         }
     };

@@ -90,7 +90,7 @@ fn ring_xor(lent: &mut Lent, k: usize, r: Ring, [b0, b1, b2]: Sharing) -> Sharin
 
 /// sum + 2^turn b, folded: the weight turns the e bits of b left.
 #[inline(always)]
-fn add_turned(r: Ring, sum: Sharing, b: Sharing, turn: u64) -> Sharing {
+fn add_rotated(r: Ring, sum: Sharing, b: Sharing, turn: u64) -> Sharing {
     let part = |i: usize| r.fold(sum[i] + (b[i] << turn & r.p) + (b[i] >> (r.width - turn)));
     [part(0), part(1), part(2)]
 }
@@ -101,7 +101,7 @@ pub fn compose(lent: Lent, r: Ring, w: Sharing, from: usize, count: usize) -> Sh
     let (mut sum, mut turn) = ([0; 3], 0);
     for k in 0..count {
         let b = ring_xor(&mut lent, k, r, bits(w, from + k));
-        sum = add_turned(r, sum, b, turn);
+        sum = add_rotated(r, sum, b, turn);
         turn = if turn + 1 == r.width { 0 } else { turn + 1 };
     }
     sum.map(|s| r.reduce(s))

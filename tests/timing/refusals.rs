@@ -1,4 +1,5 @@
-//! Every refusal that an order of each kind can meet, but 1 and a deal's 7 and 10, which test secrets; and words in no layout.
+//! Every refusal that an order of each kind can meet, but those that test secrets, 1 for a sub-share and a deal's 7 and 10;
+//! and words in no layout.
 
 use crate::cases::{At, Case, ANSWER, CHANNELS, DEALER, MASKS, ORDER, RECORD};
 use crate::orders::{usual, BITS, EMPTY, OF_OTHER_RING, SPARE, X};
@@ -107,20 +108,37 @@ fn by_item(case: &Case) -> Vec<Case> {
     runs.into_iter().zip(places).filter_map(refused).collect()
 }
 
+/// What the words of a register refuse that the order does not read.
+fn by_register(case: &Case, by: u64, tag: u64, size: u64, share: Word) -> Case {
+    let how = format!("a register of tag {tag}, size {size}");
+    case.refused(by, &how, |case| {
+        let words = [Public(tag), Public(size), share, share, share];
+        let place = words.len() * SPARE;
+        case.runs[RECORD].words[place..][..words.len()].copy_from_slice(&words);
+    })
+}
+
+/// Records that are not sound by what is public of them: a position, or a count of bits.
+fn unsound(case: &Case) -> Vec<Case> {
+    let end = case.runs[RECORD].words.len();
+    let position = |k: usize| {
+        case.refused(1, &format!("word {k} of the record"), |case| {
+            case.runs[RECORD].words[k] = Public(LIMIT + 1);
+        })
+    };
+    let count = |size: u64| by_register(case, 1, 2, size, Any);
+    let positions = (end - 3..end).map(position);
+    positions.chain([60, u64::MAX].map(count)).collect()
+}
+
 /// Lengths and registers that are in no layout.
 fn malformed(case: &Case) -> Vec<Case> {
     let length = |k: usize, lent: usize| {
         let how = format!("run {k} of {lent} words");
         case.refused(MALFORMED, &how, |case| case.runs[k].lent = lent)
     };
-    let register = |tag: u64, size: u64, share: Word| {
-        let how = format!("a register of tag {tag}, size {size}");
-        case.refused(MALFORMED, &how, |case| {
-            let words = [Public(tag), Public(size), share, share, share];
-            let place = words.len() * SPARE;
-            case.runs[RECORD].words[place..][..words.len()].copy_from_slice(&words);
-        })
-    };
+    let register =
+        |tag: u64, size: u64, share: Word| by_register(case, MALFORMED, tag, size, share);
     vec![
         length(ORDER, 3),
         length(ORDER, 5),
@@ -157,10 +175,13 @@ fn no_orders() -> Vec<Case> {
 pub fn refused() -> Vec<Case> {
     let kinds = || 1..=9;
     let in_rings = |kind: u64| Ring::all().map(|ring| of_kind(kind, ring)).concat();
-    let out_of_layout = |kind: u64| malformed(&usual(kind, Ring::all()[2], At::Start));
+    let by_record = |kind: u64| {
+        let case = usual(kind, Ring::all()[2], At::Start);
+        [unsound(&case), malformed(&case)].concat()
+    };
     let of_kinds = kinds().flat_map(in_rings);
     of_kinds
-        .chain(kinds().flat_map(out_of_layout))
+        .chain(kinds().flat_map(by_record))
         .chain(no_orders())
         .collect()
 }

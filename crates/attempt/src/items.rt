@@ -36,7 +36,7 @@ fn any_outside(p: u64, n: u64, m0: &[u64], m1: &[u64], m2: &[u64]) -> bool
     TOP <= all
 }
 
-// The same for bits, which are below 2.
+// The same for bits, which are below 2: the items united show it as they are, in fewer steps.
 fn any_wider(n: u64, m0: &[u64], m1: &[u64], m2: &[u64]) -> bool
     requires { ⌜ Long n (now m0) (now m1) (now m2) ⌝ }
     ensures { λ r. ⌜ r ≡ anyBad (replicate n 2) (three (now (m0 .entry)) (now (m1 .entry)) (now (m2 .entry))) ⌝ }

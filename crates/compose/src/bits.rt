@@ -1,6 +1,7 @@
 // Order 8: shared bits become a number of a ring, two gates a bit.
 ghost use mathlib.Core.Path.{_≡_};
 ghost use Prim.Native.Nat.{_+_, _*_, _%_, _<_, _≤_, _^_};
+ghost use Rattle.gate.specs.Lent.{atEntry, atExit};
 ghost use Rattle.gate.specs.Places.{InRange, Place, parts, tabled, three};
 ghost use Rattle.ring.specs.Modular.{Cong};
 ghost use Rattle.ring.specs.Rings.{Sized, bitOf, modulus, modulusOf, widthOf};
@@ -15,7 +16,7 @@ use gate::Sharing;
 use gate::ring_gate_by_bit;
 use gate::ring_gate_of_bits;
 use ring::Ring;
-use ring::add_turned;
+use ring::add_rotated;
 use ring::bit;
 use ring::reduce_once;
 
@@ -59,7 +60,7 @@ fn join_first(
     requires place { ⌜ j < 64 ⌝ }
     requires items { ⌜ InRange p t ⌝ }
     requires room { ⌜ Long 1 (now c0) (now c1) (now c2) ⌝ }
-    ensures is { λ h. ⌜ Joins p (three (bitOf (w .s0) j) 0 0) (three 0 (bitOf (w .s1) j) 0) (parts t) (three (now (c0 .entry)) (now (c1 .entry)) (now (c2 .entry))) h (three (now (c0 .exit)) (now (c1 .exit)) (now (c2 .exit))) ⌝ }
+    ensures is { λ h. ⌜ Joins p (three (bitOf (w .s0) j) 0 0) (three 0 (bitOf (w .s1) j) 0) (parts t) (atEntry c0 c1 c2) h (atExit c0 c1 c2) ⌝ }
     ensures below { λ h. ⌜ InRange (2 * p + 2) h ⌝ }
 {
     let b0 = bit(w.s0, j);
@@ -95,7 +96,7 @@ fn join_last(
     requires half { ⌜ InRange (2 * p + 2) half ⌝ }
     requires items { ⌜ InRange p t ⌝ }
     requires room { ⌜ Long 1 (now c0) (now c1) (now c2) ⌝ }
-    ensures is { λ h. ⌜ Joins p (parts half) (three 0 0 (bitOf (w .s2) j)) (parts t) (three (now (c0 .entry)) (now (c1 .entry)) (now (c2 .entry))) h (three (now (c0 .exit)) (now (c1 .exit)) (now (c2 .exit))) ⌝ }
+    ensures is { λ h. ⌜ Joins p (parts half) (three 0 0 (bitOf (w .s2) j)) (parts t) (atEntry c0 c1 c2) h (atExit c0 c1 c2) ⌝ }
     ensures below { λ h. ⌜ InRange (4 * p + 4) h ⌝ }
 {
     let b2 = bit(w.s2, j);
@@ -126,7 +127,7 @@ fn join_bit(
     requires masks { ⌜ Long 2 (now m0) (now m1) (now m2) ⌝ }
     requires items { ⌜ ItemsBelow p 2 (now m0) (now m1) (now m2) ⌝ }
     requires room { ⌜ Long 2 (now c0) (now c1) (now c2) ⌝ }
-    ensures is { λ b. ⌜ JoinsBit p j (parts w) (three (now (m0 .entry)) (now (m1 .entry)) (now (m2 .entry))) (three (now (c0 .entry)) (now (c1 .entry)) (now (c2 .entry))) (parts b) (three (now (c0 .exit)) (now (c1 .exit)) (now (c2 .exit))) ⌝ }
+    ensures is { λ b. ⌜ JoinsBit p j (parts w) (atEntry m0 m1 m2) (atEntry c0 c1 c2) (parts b) (atExit c0 c1 c2) ⌝ }
     ensures below { λ b. ⌜ InRange (4 * p + 4) b ⌝ }
 {
     let t0 = items_at(m0, m1, m2, 0);
@@ -154,9 +155,9 @@ fn add_weighted(e: u64, p: u64, sum: Sharing, j: u64, b: Sharing) -> Sharing
     ensures is { λ z. ⌜ ((i : Place) → Cong p (parts z i) (parts sum i + 2 ^ j * parts b i)) ⌝ }
     ensures below { λ z. ⌜ InRange (p + p) z ⌝ }
 {
-    let s0 = add_turned(e, p, j, b.s0, sum.s0);
-    let s1 = add_turned(e, p, j, b.s1, sum.s1);
-    let s2 = add_turned(e, p, j, b.s2, sum.s2);
+    let s0 = add_rotated(e, p, j, b.s0, sum.s0);
+    let s1 = add_rotated(e, p, j, b.s1, sum.s1);
+    let s2 = add_rotated(e, p, j, b.s2, sum.s2);
     Sharing { s0, s1, s2 }
 }
 
@@ -202,7 +203,8 @@ pub fn compose_bits(
     requires masks { ⌜ Long (2 * count) (now m0) (now m1) (now m2) ⌝ }
     requires items { ⌜ ItemsBelow (modulusOf r) (2 * count) (now m0) (now m1) (now m2) ⌝ }
     requires room { ⌜ Long (2 * count) (now c0) (now c1) (now c2) ⌝ }
-    ensures is { λ z. ⌜ Summed (composeGates wordBit (modulusOf r) from count) (tabled (λ i. summingStart (parts w i))) (three (now (m0 .entry)) (now (m1 .entry)) (now (m2 .entry))) (three (now (c0 .entry)) (now (c1 .entry)) (now (c2 .entry))) (parts z) (three (now (c0 .exit)) (now (c1 .exit)) (now (c2 .exit))) ⌝ }
+    ensures is { λ z. ⌜ Summed (composeGates wordBit (modulusOf r) from count) (tabled (λ i. summingStart (parts w i)))
+        (atEntry m0 m1 m2) (atEntry c0 c1 c2) (parts z) (atExit c0 c1 c2) ⌝ }
     ensures below { λ z. ⌜ InRange (modulusOf r) z ⌝ }
 {
     let e = r.width();
@@ -245,7 +247,7 @@ pub fn compose(
     requires masks { ⌜ Long (2 * l) (now m0) (now m1) (now m2) ⌝ }
     requires items { ⌜ ItemsBelow (modulusOf f) (2 * l) (now m0) (now m1) (now m2) ⌝ }
     requires room { ⌜ Long (2 * l) (now c0) (now c1) (now c2) ⌝ }
-    ensures is { λ z. ⌜ Left (composition (widthOf f) l) (parts w) (parts w) (three (now (m0 .entry)) (now (m1 .entry)) (now (m2 .entry))) (three (now (c0 .entry)) (now (c1 .entry)) (now (c2 .entry))) z (three (now (c0 .exit)) (now (c1 .exit)) (now (c2 .exit))) ⌝ }
+    ensures is { λ z. ⌜ Left (composition (widthOf f) l) (parts w) (parts w) (atEntry m0 m1 m2) (atEntry c0 c1 c2) z (atExit c0 c1 c2) ⌝ }
     ensures below { λ z. ⌜ InRange (modulusOf f) z ⌝ }
 {
     compose_bits(f, w, 0, l, m0, m1, m2, c0, c1, c2)

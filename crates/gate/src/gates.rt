@@ -1,7 +1,7 @@
 // The gate: each party's word goes to the head of its channel, and the words are the new sub-shares.
 ghost use mathlib.Core.Path.{_≡_};
 ghost use Prim.Native.Nat.{_+_, _*_, _<_, _≤_};
-ghost use Rattle.ring.specs.Rings.{Sized, modulus};
+ghost use Rattle.ring.specs.Rings.{Halved, Sized};
 ghost use Rattle.gate.specs.Gates.{gated};
 ghost use Rattle.gate.specs.Places.{InRange, Room, Sent, parts, sharing, three};
 use crate::sharing::Sharing;
@@ -31,8 +31,7 @@ pub fn ring_gate(
     c1: &mut [u64],
     c2: &mut [u64],
 ) -> Sharing
-    requires modulus { ⌜ p ≡ modulus (2 * k + 1) ⌝ }
-    requires width { ⌜ (2 ≤ k) × (k ≤ 30) ⌝ }
+    requires halved { ⌜ Halved k p ⌝ }
     requires left { ⌜ InRange p x ⌝ }
     requires right { ⌜ InRange p y ⌝ }
     requires items { ⌜ InRange p t ⌝ }

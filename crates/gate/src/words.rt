@@ -2,7 +2,7 @@
 ghost use mathlib.Core.Path.{_≡_};
 ghost use Prim.Native.Nat.{_+_, _*_, _%_, _<_, _≤_, _^_};
 ghost use Rattle.ring.specs.Modular.{Cong};
-ghost use Rattle.ring.specs.Rings.{Sized, modulus};
+ghost use Rattle.ring.specs.Rings.{Halved, Sized};
 ghost use Rattle.gate.specs.Gates.{gated, mask, word};
 ghost use Rattle.gate.specs.Places.{InRange, PairBelow, pair, parts, sharing, three};
 use crate::sharing::Sharing;
@@ -23,8 +23,7 @@ fn mask_word(p: u64, t: u64, tf: u64) -> u64
 
 // z_i modulo p = 2^(2k+1) - 1, from the sub-shares i and i + 1 of x, of y and of the items.
 fn ring_word(k: u64, p: u64, x: u64, xf: u64, y: u64, yf: u64, t: u64, tf: u64) -> u64
-    requires modulus { ⌜ p ≡ modulus (2 * k + 1) ⌝ }
-    requires width { ⌜ (2 ≤ k) × (k ≤ 30) ⌝ }
+    requires halved { ⌜ Halved k p ⌝ }
     requires left { ⌜ PairBelow p (pair x xf) ⌝ }
     requires right { ⌜ PairBelow p (pair y yf) ⌝ }
     requires items { ⌜ PairBelow p (pair t tf) ⌝ }
@@ -49,8 +48,7 @@ fn bit_word(x: u64, xf: u64, y: u64, yf: u64, t: u64, tf: u64) -> u64
 
 // z_0, z_1 and z_2 modulo p = 2^(2k+1) - 1.
 pub fn ring_words(k: u64, p: u64, x: Sharing, y: Sharing, t: Sharing) -> Sharing
-    requires modulus { ⌜ p ≡ modulus (2 * k + 1) ⌝ }
-    requires width { ⌜ (2 ≤ k) × (k ≤ 30) ⌝ }
+    requires halved { ⌜ Halved k p ⌝ }
     requires left { ⌜ InRange p x ⌝ }
     requires right { ⌜ InRange p y ⌝ }
     requires items { ⌜ InRange p t ⌝ }

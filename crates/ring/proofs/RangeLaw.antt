@@ -7,7 +7,7 @@ use native.Mathlib.Omega.{arith}
 use borrow.Author.Tests.{eqb-true}
 use lib.Dec.{eqb, lit≤}
 use lib.Pow.{pow-mono}
-use Rattle.ring.specs.Rings.{Sized, modulus, modulusOf, quarterOf, ringOf, widthOf}
+use Rattle.ring.specs.Rings.{Halved, Sized, modulusOf, quarterOf, ringOf, widthOf}
 use Rattle.ring.specs.declared.rings.OfWidth.the-variants.{Named, NoRing}
 use Rattle.ring.specs.declared.rings.Ring.{Ring}
 use Rattle.ring.specs.declared.rings.Ring.the-variants.{R13, R31, R61}
@@ -41,17 +41,7 @@ width-named e {r} named = go (eqb e 13) (eqb e 31) (eqb e 61) refl refl refl nam
     go false false true h k l named = let q : R61 ≡ r = cc in eqb-true e 61 l ∙ ap widthOf q
     go false false false h k l named = cc
 
--- and what follows from that
-pub modulus-lt : (r : Ring) → modulusOf r < 2 ^ 61
-modulus-lt r = omega (arith, modulus-suc (widthOf r), pow-mono {i = widthOf r} {j = 61} (width-le r))
-
-pub modulus-gt : (r : Ring) → 2 ^ 12 < modulusOf r
-modulus-gt r = omega (arith, modulus-suc (widthOf r), pow-mono {i = 13} {j = widthOf r} (width-ge r))
-
-pub quarter-lt : (r : Ring) → quarterOf r < modulusOf r
-quarter-lt r = quarter-below (widthOf r) (omega (arith, width-ge r))
-
--- the same of a width and a modulus as numbers
+-- so of a width and a modulus as numbers
 pub sized : (r : Ring) {e p : ℕ} → e ≡ widthOf r → p ≡ modulusOf r → Sized e p
 sized r he hp = record { is = rw he hp; least = omega (arith, width-ge r); most = omega (arith, width-le r) }
 
@@ -61,17 +51,17 @@ sized-lt {e} h = omega (arith, h, modulus-suc e, pow-mono {i = e} {j = 61} (h .m
 pub sized-gt : {e p : ℕ} → Sized e p → 2 ^ 12 < p
 sized-gt {e} h = omega (arith, h, modulus-suc e, pow-mono {i = 13} {j = e} (h .least))
 
+pub modulus-lt : (r : Ring) → modulusOf r < 2 ^ 61
+modulus-lt r = sized-lt (sized r refl refl)
+
+pub quarter-lt : (r : Ring) → quarterOf r < modulusOf r
+quarter-lt r = quarter-below (widthOf r) (omega (arith, width-ge r))
+
 -- seven times p has few bits above bit e
 pub few-above : {e p : ℕ} (s : ℕ) → Sized e p → s < 7 * p → (s < p * 2 ^ e) × (s < 15 * 2 ^ 60)
 few-above {e} {p} s h sum =
     let eight : 8 ≤ 2 ^ e = pow-mono {i = 3} (omega (arith, h)) in
     (omega (arith, mul-le-mul (le-refl p) eight), omega (arith, sized-lt h))
-
--- what the product asks of k = e / 2 and p
-pub record Halved (k p : ℕ) : Type 0 where
-  pub is : p ≡ modulus (2 * k + 1)
-  pub least : 2 ≤ k
-  pub most : k ≤ 30
 
 pub halved : (r : Ring) {e p : ℕ} → e ≡ widthOf r → p ≡ modulusOf r → Halved (e / 2) p
 halved r he hp = record { is = rw (he, width-odd r) hp; least = omega (arith, width-ge r); most = omega (arith, width-le r) }

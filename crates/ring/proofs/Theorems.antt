@@ -16,8 +16,8 @@ use native.Mathlib.Nat.{
 use native.Mathlib.Omega.{arith}
 use lib.Pow.{pow-add, pow-pos, pow-mono}
 use Rattle.ring.specs.Modular.{Cong}
-use Rattle.ring.specs.Rings.{modulus, quarter, turned}
-use Rattle.ring.specs.Theorems.{Folds, FourTimes, Product, Quarter, Turns}
+use Rattle.ring.specs.Rings.{modulus, quarter, rotated}
+use Rattle.ring.specs.Theorems.{Folds, FourTimes, Product, Quarter, Rotates}
 use Rattle.ring.proofs.CongLaw.{cong-of-eq, cong-trans, cong-sym, cong-multiple, cong-below}
 
 -- 2^e is one more than the modulus
@@ -26,8 +26,8 @@ unfolding modulus
 modulus-suc e = omega (arith, pow-pos e)
 
 -- so it is 1
-pub whole-turn : (e : ℕ) → Cong (modulus e) 1 (2 ^ e)
-whole-turn e =
+pub whole-rotation : (e : ℕ) → Cong (modulus e) 1 (2 ^ e)
+whole-rotation e =
     let one-more : 1 + modulus e * 1 ≡ 2 ^ e = omega (arith, modulus-suc e) in
     cong-trans (cong-sym (cong-multiple (modulus e) 1 1)) (cong-of-eq one-more)
 
@@ -54,7 +54,7 @@ pub div-pow-le : {i e : ℕ} (s : ℕ) → i ≤ e → s / 2 ^ e ≤ s / 2 ^ i
 div-pow-le {i} {e} s wide =
     le-div-iff-mul-le (pow-pos i) .1 (omega (arith, mul-le-mul (le-refl (s / 2 ^ e)) (pow-mono wide), div-mul-le-self s (2 ^ e)))
 
--- a turned word is below the modulus unless all its bits are ones: Q is 2^(e-k), K is 2^k
+-- a rotated word is below the modulus unless all its bits are ones: Q is 2^(e-k), K is 2^k
 turn-below : (Q K high low : ℕ) → low < Q → high < K → high * Q + low + 1 < Q * K → low * K + high + 1 < Q * K
 turn-below Q K high low small top below =
     ⊎-elim
@@ -66,9 +66,9 @@ turn-below Q K high low small top below =
     (eq-or-lt-of-le {n = low + 1} {m = Q} (omega arith))
 
 -- what a turn stands for, of any number
-pub turned-cong : (e k a : ℕ) → k ≤ e → Cong (modulus e) (turned e k a) (2 ^ k * a)
-unfolding turned
-turned-cong e k a h =
+pub rotated-cong : (e k a : ℕ) → k ≤ e → Cong (modulus e) (rotated e k a) (2 ^ k * a)
+unfolding rotated
+rotated-cong e k a h =
     let Q = 2 ^ (e - k) in
     let K = 2 ^ k in
     let whole : a / Q * Q + a % Q ≡ a = div-add-mod' a Q in
@@ -77,9 +77,9 @@ turned-cong e k a h =
     let order : a % Q * K + a / Q ≡ a / Q + a % Q * K = omega arith in
     cong-trans (cong-of-eq order) (cong-trans (cong-sym (folds e (a / Q) (a % Q * K))) (cong-of-eq moved))
 
-pub turns : Turns
-unfolding turned
-turns e k a h below =
+pub rotates : Rotates
+unfolding rotated
+rotates e k a h below =
     let Q = 2 ^ (e - k) in
     let K = 2 ^ k in
     let powers : 2 ^ e ≡ Q * K = split-power e k h in
@@ -88,19 +88,19 @@ turns e k a h below =
     let small : a % Q < Q = mod-lt a (pow-pos (e - k)) in
     let high : a / Q < K = div-lt-iff-lt-mul (pow-pos (e - k)) .1 (omega arith) in
     let fits : a % Q * K + a / Q < modulus e = omega (arith, turn-below Q K (a / Q) (a % Q) small high (omega arith)) in
-    cong-below fits (turned-cong e k a h)
+    cong-below fits (rotated-cong e k a h)
 
 -- a turn of a number adds at most its half to p
-pub turned-le : (e k a : ℕ) → k < e → turned e k a ≤ modulus e + a / 2
-unfolding turned
-turned-le e k a h =
+pub rotated-le : (e k a : ℕ) → k < e → rotated e k a ≤ modulus e + a / 2
+unfolding rotated
+rotated-le e k a h =
     let rest : a % 2 ^ (e - k) + 1 ≤ 2 ^ (e - k) = omega (arith, mod-lt a (pow-pos (e - k))) in
     let low : (a % 2 ^ (e - k) + 1) * 2 ^ k ≤ 2 ^ (e - k) * 2 ^ k = mul-le-mul rest (le-refl (2 ^ k)) in
     let high : a / 2 ^ (e - k) ≤ a / 2 ^ 1 = div-pow-le {i = 1} a (omega arith) in
     omega (arith, low, high, split-power e k (omega arith), modulus-suc e, pow-pos k)
 
 pub four-times : FourTimes
-four-times e a = turns e 2 a
+four-times e a = rotates e 2 a
 
 pub quarter-inverts : Quarter
 unfolding quarter

@@ -7,7 +7,7 @@ use lib.Bits.{and-le-r, and-mask, bitAnd}
 use lib.Dec.{lit<}
 use lib.Pow.{high, mod-mod-pow, mod-pow-add, ones-lt, ones-split, pow-mono, pow-pos, shl-exact, shl-shr}
 use Rattle.ring.specs.Modular.{Cong}
-use Rattle.ring.specs.Rings.{modulus, turned}
+use Rattle.ring.specs.Rings.{modulus, rotated}
 use Rattle.ring.proofs.Theorems.{modulus-suc, next-power, odd-power, product}
 
 -- a one that is shifted within a word
@@ -25,10 +25,10 @@ unfolding modulus
 modulus-shifted j k = ap (λ (n : ℕ). n / 2 ^ k) (ones-split j k) ∙ high (2 ^ j - 1) k (ones-lt k)
 
 -- a turn, as the code has it
-pub turn-word : (e p k a : ℕ) → p ≡ modulus e → e < 64 → k ≤ e
-    → (bitAnd a (p / 2 ^ k) * 2 ^ k) % 2 ^ 64 + a / 2 ^ (e - k) ≡ turned e k a
-unfolding turned
-turn-word e p k a h narrow places =
+pub rotate-word : (e p k a : ℕ) → p ≡ modulus e → e < 64 → k ≤ e
+    → (bitAnd a (p / 2 ^ k) * 2 ^ k) % 2 ^ 64 + a / 2 ^ (e - k) ≡ rotated e k a
+unfolding rotated
+rotate-word e p k a h narrow places =
     let whole : e ≡ (e - k) + k = omega arith in
     let mask : p / 2 ^ k ≡ modulus (e - k) = ap (λ (n : ℕ). n / 2 ^ k) (h ∙ ap modulus whole) ∙ modulus-shifted (e - k) k in
     let low : bitAnd a (p / 2 ^ k) ≡ a % 2 ^ (e - k) = low-bits (e - k) (p / 2 ^ k) a mask in

@@ -17,8 +17,8 @@ unfoldable pub quarter : ℕ → ℕ
 quarter e = 2 ^ (e - 2)
 
 -- "a turn of its e bits left" (order 5, by two) by k: the low e - k bits move up, the k highest come in below
-unfoldable pub turned : ℕ → ℕ → ℕ → ℕ
-turned e k a = a % 2 ^ (e - k) * 2 ^ k + a / 2 ^ (e - k)
+unfoldable pub rotated : ℕ → ℕ → ℕ → ℕ
+rotated e k a = a % 2 ^ (e - k) * 2 ^ k + a / 2 ^ (e - k)
 
 -- "Bit j of a sub-share word is the one of weight 2^j"
 unfoldable pub bitOf : ℕ → ℕ → ℕ
@@ -40,8 +40,14 @@ quarterOf r = quarter (widthOf r)
 unfoldable pub ringOf : ℕ → OfWidth
 ringOf e = cond (eqb e 13) (Named R13) (cond (eqb e 31) (Named R31) (cond (eqb e 61) (Named R61) NoRing))
 
--- a width and a modulus as numbers: what code that is lent both knows of them. Used by contracts alone
+-- a width and a modulus as numbers: what code that is given both knows of them; used by contracts alone
 pub record Sized (e p : ℕ) : Type 0 where
   pub is : p ≡ modulus e
   pub least : 13 ≤ e
   pub most : e ≤ 61
+
+-- the same with half the width, rounded down: what products are cut by
+pub record Halved (k p : ℕ) : Type 0 where
+  pub is : p ≡ modulus (2 * k + 1)
+  pub least : 2 ≤ k
+  pub most : k ≤ 30

@@ -2,19 +2,19 @@
 use Prim.Native.Nat.{ℕ, _+_, _*_, _%_, _≤_, _<_, _^_}
 use mathlib.Core.Path.{_≡_}
 use Rattle.ring.specs.Modular.{Cong}
-use Rattle.ring.specs.Rings.{modulus, quarter, turned}
+use Rattle.ring.specs.Rings.{modulus, quarter, rotated}
 
 -- a word above bit e folds onto the low bits: 2^e is 1 modulo p
 abbrev pub Folds : Type 0
 Folds = (e high low : ℕ) → Cong (modulus e) (high * 2 ^ e + low) (high + low)
 
 -- 2^k times a number below p is the turn of its e bits left by k
-abbrev pub Turns : Type 0
-Turns = (e k a : ℕ) → k ≤ e → a < modulus e → turned e k a ≡ 2 ^ k * a % modulus e
+abbrev pub Rotates : Type 0
+Rotates = (e k a : ℕ) → k ≤ e → a < modulus e → rotated e k a ≡ 2 ^ k * a % modulus e
 
 -- so four times is the turn by two
 abbrev pub FourTimes : Type 0
-FourTimes = (e a : ℕ) → 2 ≤ e → a < modulus e → turned e 2 a ≡ 4 * a % modulus e
+FourTimes = (e a : ℕ) → 2 ≤ e → a < modulus e → rotated e 2 a ≡ 4 * a % modulus e
 
 -- the inverse of four
 abbrev pub Quarter : Type 0

@@ -7,8 +7,8 @@ use crate::modular::add_mod;
 use crate::modular::mul_mod;
 use crate::modular::reduce_short;
 use crate::modular::reduce_word;
+use crate::modular::rotate_mod;
 use crate::modular::sub_mod;
-use crate::modular::turn_mod;
 use crate::rings::Ring;
 
 impl Ring {
@@ -65,6 +65,6 @@ impl Ring {
         ensures is { λ r. ⌜ r ≡ 4 * a % modulusOf self ⌝ }
         ensures below { λ r. ⌜ r < modulusOf self ⌝ }
     {
-        turn_mod(self.width(), self.modulus(), 2, a)
+        rotate_mod(self.width(), self.modulus(), 2, a)
     }
 }

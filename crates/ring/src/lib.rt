@@ -6,7 +6,7 @@ mod rings;
 
 pub use bits::bit;
 pub use modular::add_mod;
-pub use modular::add_turned;
+pub use modular::add_rotated;
 pub use modular::mul_add_mod;
 pub use modular::mul_mod;
 pub use modular::reduce_once;

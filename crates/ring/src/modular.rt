@@ -3,7 +3,7 @@
 ghost use mathlib.Core.Path.{_≡_};
 ghost use Prim.Native.Nat.{_+_, _*_, _/_, _%_, _<_, _≤_, _^_};
 ghost use Rattle.ring.specs.Modular.{Cong, diff};
-ghost use Rattle.ring.specs.Rings.{Sized, modulus, turned};
+ghost use Rattle.ring.specs.Rings.{Halved, Sized, modulus, rotated};
 
 // a + b modulo p.
 pub fn add_mod(e: u64, p: u64, a: u64, b: u64) -> u64
@@ -31,8 +31,7 @@ pub fn sub_mod(e: u64, p: u64, a: u64, b: u64) -> u64
 
 // a × b modulo p = 2^(2k+1) - 1.
 pub fn mul_mod(k: u64, p: u64, a: u64, b: u64) -> u64
-    requires modulus { ⌜ p ≡ modulus (2 * k + 1) ⌝ }
-    requires width { ⌜ (2 ≤ k) × (k ≤ 30) ⌝ }
+    requires halved { ⌜ Halved k p ⌝ }
     requires left { ⌜ a < p ⌝ }
     requires right { ⌜ b < p ⌝ }
     ensures is { λ r. ⌜ r ≡ (a * b) % p ⌝ }
@@ -43,8 +42,7 @@ pub fn mul_mod(k: u64, p: u64, a: u64, b: u64) -> u64
 
 // a × b + c × d + s modulo p = 2^(2k+1) - 1, reduced once for all three.
 pub fn mul_add_mod(k: u64, p: u64, a: u64, b: u64, c: u64, d: u64, s: u64) -> u64
-    requires modulus { ⌜ p ≡ modulus (2 * k + 1) ⌝ }
-    requires width { ⌜ (2 ≤ k) × (k ≤ 30) ⌝ }
+    requires halved { ⌜ Halved k p ⌝ }
     requires left { ⌜ (a < p) × (b < p) ⌝ }
     requires right { ⌜ (c < p) × (d < p) ⌝ }
     requires sum { ⌜ s < p + p ⌝ }
@@ -57,8 +55,7 @@ pub fn mul_add_mod(k: u64, p: u64, a: u64, b: u64, c: u64, d: u64, s: u64) -> u6
 
 // a × b + c × d in 64-bit words, not reduced: the factors are cut above bit k, the middle column at bit k.
 fn columns(k: u64, p: u64, a: u64, b: u64, c: u64, d: u64) -> u64
-    requires modulus { ⌜ p ≡ modulus (2 * k + 1) ⌝ }
-    requires width { ⌜ (2 ≤ k) × (k ≤ 30) ⌝ }
+    requires halved { ⌜ Halved k p ⌝ }
     requires left { ⌜ (a < p) × (b < p) ⌝ }
     requires right { ⌜ (c < p) × (d < p) ⌝ }
     ensures is { λ r. ⌜ Cong p r (a * b + c * d) ⌝ }
@@ -78,7 +75,7 @@ fn columns(k: u64, p: u64, a: u64, b: u64, c: u64, d: u64) -> u64
 }
 
 // 2^k × a modulo p: the e bits of a, turned left by k.
-pub fn turn_mod(e: u64, p: u64, k: u64, a: u64) -> u64
+pub fn rotate_mod(e: u64, p: u64, k: u64, a: u64) -> u64
     requires modulus { ⌜ p ≡ modulus e ⌝ }
     requires width { ⌜ e < 64 ⌝ }
     requires places { ⌜ k ≤ e ⌝ }
@@ -86,11 +83,11 @@ pub fn turn_mod(e: u64, p: u64, k: u64, a: u64) -> u64
     ensures is { λ r. ⌜ r ≡ 2 ^ k * a % p ⌝ }
     ensures below { λ r. ⌜ r < p ⌝ }
 {
-    turn_word(e, p, k, a)
+    rotate_word(e, p, k, a)
 }
 
 // s + 2^k × a modulo p, not reduced, of numbers that need not be.
-pub fn add_turned(e: u64, p: u64, k: u64, a: u64, s: u64) -> u64
+pub fn add_rotated(e: u64, p: u64, k: u64, a: u64, s: u64) -> u64
     requires sized { ⌜ Sized e p ⌝ }
     requires places { ⌜ k < e ⌝ }
     requires number { ⌜ a < 5 * p ⌝ }
@@ -98,16 +95,16 @@ pub fn add_turned(e: u64, p: u64, k: u64, a: u64, s: u64) -> u64
     ensures is { λ r. ⌜ Cong p r (s + 2 ^ k * a) ⌝ }
     ensures below { λ r. ⌜ r < p + p ⌝ }
 {
-    fold(e, p, s + turn_word(e, p, k, a))
+    fold(e, p, s + rotate_word(e, p, k, a))
 }
 
 // The low e - k bits of a move up by k, and what is above them comes in below.
-fn turn_word(e: u64, p: u64, k: u64, a: u64) -> u64
+fn rotate_word(e: u64, p: u64, k: u64, a: u64) -> u64
     requires modulus { ⌜ p ≡ modulus e ⌝ }
     requires width { ⌜ e < 64 ⌝ }
     requires places { ⌜ k ≤ e ⌝ }
-    requires room { ⌜ turned e k a < 2 ^ 64 ⌝ }
-    ensures { λ r. ⌜ r ≡ turned e k a ⌝ }
+    requires room { ⌜ rotated e k a < 2 ^ 64 ⌝ }
+    ensures { λ r. ⌜ r ≡ rotated e k a ⌝ }
 {
     ((a & (p >> k)) << k) + (a >> (e - k))
 }

@@ -5,7 +5,7 @@ ghost use lib.ListN.{length};
 ghost use Rattle.gate.specs.Lent.{atEntry, atExit};
 ghost use Rattle.gate.specs.Places.{InRange};
 ghost use Rattle.ring.specs.Lent.{Stands};
-ghost use Rattle.ring.specs.Rings.{modulus, modulusOf};
+ghost use Rattle.ring.specs.Rings.{Halved, modulusOf};
 ghost use Rattle.timing.specs.Chains.{Ran, Shape, chain, gates, inRange, shaped, started, tripleAt};
 use crate::products::same_lengths;
 use gate::Sharing;
@@ -50,8 +50,7 @@ fn run_chain(
     c1: &mut [u64],
     c2: &mut [u64],
 ) -> usize
-    requires modulus { ⌜ p ≡ modulus (2 * k + 1) ⌝ }
-    requires width { ⌜ (2 ≤ k) × (k ≤ 30) ⌝ }
+    requires halved { ⌜ Halved k p ⌝ }
     requires left { ⌜ InRange p x ⌝ }
     requires right { ⌜ InRange p y ⌝ }
     requires lengths { ⌜ Shape (now items) (now c0) (now c1) (now c2) ⌝ }

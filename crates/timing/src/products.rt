@@ -3,7 +3,7 @@ ghost use mathlib.Core.Path.{_≡_};
 ghost use Prim.Native.Nat.{_+_, _*_, _≤_};
 ghost use lib.ListN.{length};
 ghost use Rattle.ring.specs.Lent.{Stands};
-ghost use Rattle.ring.specs.Rings.{modulus, modulusOf};
+ghost use Rattle.ring.specs.Rings.{Halved, modulusOf};
 ghost use Rattle.timing.specs.Products.{alike, multiplied, outcome, product, products};
 use ring::OfWidth;
 use ring::Ring;
@@ -18,8 +18,7 @@ pub fn same_lengths(a: usize, b: usize, n: usize) -> bool
 
 // x × y modulo p = 2^(2k+1) - 1, or 0 where one is out of range.
 fn checked_product(k: u64, p: u64, x: u64, y: u64) -> u64
-    requires modulus { ⌜ p ≡ modulus (2 * k + 1) ⌝ }
-    requires width { ⌜ (2 ≤ k) × (k ≤ 30) ⌝ }
+    requires halved { ⌜ Halved k p ⌝ }
     ensures { λ z. ⌜ z ≡ product p x y ⌝ }
 {
     if x < p {

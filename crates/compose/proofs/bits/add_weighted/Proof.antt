@@ -9,8 +9,8 @@ returns : tie.Need-returns
 returns c =
     let one = c .before in
     let zero = one .before in (
-      each _ (zero .add-turned .ensures .0) (one .add-turned2 .ensures .0) (c .add-turned3 .ensures .0),
-      record { zero = zero .add-turned .ensures .1; one = one .add-turned2 .ensures .1; two = c .add-turned3 .ensures .1 },
+      each _ (zero .add-rotated .ensures .0) (one .add-rotated2 .ensures .0) (c .add-rotated3 .ensures .0),
+      record { zero = zero .add-rotated .ensures .1; one = one .add-rotated2 .ensures .1; two = c .add-rotated3 .ensures .1 },
     )
 
 pub add-weighted-spec : {M : Type 1} → statement M

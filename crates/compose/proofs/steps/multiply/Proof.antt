@@ -18,7 +18,7 @@ fits c κs =
     let is = known .modulus .ensures in
     let sizes = halved (begun .args .r) (known .before .width .ensures) is in
     let items = items-in (omega arith) (taken .items-at .ensures) (begun .pre .1 .1 .1 .0) in
-    (sizes .is, ((sizes .least, sizes .most), (rw is (begun .pre .0), (rw is (begun .pre .1 .0), (rw is items, search needs)))))
+    (sizes, (rw is (begun .pre .0), (rw is (begun .pre .1 .0), (rw is items, search needs))))
 
 returns : tie.Need-returns
 returns c =

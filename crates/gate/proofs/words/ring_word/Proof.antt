@@ -19,6 +19,6 @@ ring-word-spec =
     (λ c. search needs)
     (λ c. search needs)
     (λ c κs. search needs)
-    (λ c κs. (omega (arith, modulus-room (c .before .pre .0) (omega arith)), c .before .pre .1 .1 .1 .1))
-    (λ c κs. (c .before .before .pre .0, (c .before .before .pre .1 .0, omega arith)))
+    (λ c κs. (omega (arith, modulus-room (c .before .pre .0 .is) (omega arith)), c .before .pre .1 .1 .1))
+    (λ c κs. (c .before .before .pre .0, omega arith))
     returns)

@@ -20,7 +20,7 @@ abbrev μ-loop : tie.MeasureT-loop
 μ-loop k p y items c0₀ c1₀ c2₀ z₀ i₀ c0 c1 c2 z i = length c0₀ - i
 
 holds : tie.Need-loop-holds Inv-loop μ-loop
-holds c = (refl, refl, refl, omega arith, c .before .before .before .before .pre .1 .1 .0, at-start _ _ _ _ _)
+holds c = (refl, refl, refl, omega arith, c .before .before .before .before .pre .1 .0, at-start _ _ _ _ _)
 
 -- an item out of range ends the chain
 out : tie.Need-returns Inv-loop μ-loop
@@ -40,10 +40,7 @@ requires c κs =
     let room₂ = mid-len (head .loop .i) (length (head .loop .c2)) (head .loop .c2) (omega arith) in
     let fits = test-of _ refl (tested .before .in-range .ensures) (not-false _ (tested .if1 .left)) in (
       start .pre .0,
-      (
-        start .pre .1 .0,
-        (head .loop .inv .4, (start .pre .1 .1 .1 .0, (range-of fits, record { zero = omega arith; one = omega arith; two = omega arith }))),
-      ),
+      (head .loop .inv .4, (start .pre .1 .1 .0, (range-of fits, record { zero = omega arith; one = omega arith; two = omega arith }))),
     )
 
 counts : tie.Need-add-i Inv-loop μ-loop
@@ -68,7 +65,7 @@ again c =
       same-len-mid i (length (head .loop .c2) - i) (head .loop .c2) (last .1 .1 .0) (kept .1 .1 .0) ∙ inv .2,
       omega (arith, at-triple .before .loop-test .taken, inv .0),
       called .ring-gate .ensures .1 .0,
-      went-on _ _ _ _ _ (inv .5) (omega (arith, at-triple .before .loop-test .taken, inv .0)) (start .pre .1 .1 .1 .1 .one) (start .pre .1 .1 .1 .1 .two)
+      went-on _ _ _ _ _ (inv .5) (omega (arith, at-triple .before .loop-test .taken, inv .0)) (start .pre .1 .1 .1 .one) (start .pre .1 .1 .1 .two)
           (inv .0) (inv .1) (inv .2)
           (at-triple .triple .ensures)
           (test-of _ refl (tested .before .in-range .ensures) (not-false _ (tested .if1 .left)))

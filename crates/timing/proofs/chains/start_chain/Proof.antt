@@ -18,7 +18,7 @@ requires c κs =
     let sizes = halved (start .args .r) (known .before .width .ensures) (known .modulus .ensures) in
     let left = range-of (test-of _ refl (first .in-range .ensures) (told .0)) in
     let right = range-of (test-of _ refl (second .in-range2 .ensures) (told .1)) in
-    (sizes .is, ((sizes .least, sizes .most), (left, (right, start .pre))))
+    (sizes, (left, (right, start .pre)))
 
 ran : tie.Need-returns
 ran c =

@@ -5,7 +5,8 @@ use mathlib.Core.Path.{_≡_, refl, sym, _∙_}
 use native.Mathlib.Omega.{arith}
 use borrow.Author.Needs.{needs}
 use lib.ListN.{drop, length, length-set, take}
-use Rattle.ring.proofs.RangeLaw.{Halved, halved}
+use Rattle.ring.specs.Rings.{Halved}
+use Rattle.ring.proofs.RangeLaw.{halved}
 use Rattle.timing.specs.Products.{products}
 use Rattle.timing.proofs.ProductLaw.{all-done, one-more}
 use Rattle.timing.proofs.products.multiply_all.Statement.{statement}

@@ -11,4 +11,4 @@ four-times-spec =
     (λ c κs. search needs)
     (λ c κs. search needs)
     (λ c κs. omega (arith, sized (c .before .before .args .self) (c .before .width .ensures) (c .modulus .ensures), c .modulus .ensures))
-    (λ c. rw (← (c .before .modulus .ensures)) (c .turn-mod .ensures)))
+    (λ c. rw (← (c .before .modulus .ensures)) (c .rotate-mod .ensures)))
