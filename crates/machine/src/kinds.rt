@@ -2,7 +2,7 @@
 ghost use mathlib.Core.Bool.{true};
 ghost use mathlib.Core.Path.{_≡_};
 ghost use Rattle.ring.specs.Rings.{modulus};
-ghost use Rattle.machine.specs.Checks.{isBits, isEmpty, isNumber};
+ghost use Rattle.machine.specs.Checks.{isBits, isEmpty};
 ghost use Rattle.machine.specs.Registers.{countAt, kindOf, ringAt, sharesOf, soundRegister, widthAt};
 ghost use Rattle.machine.specs.Step.{valueOf};
 use crate::registers::Register;
@@ -16,16 +16,6 @@ impl Register {
         match self {
             Register::Empty => true,
             Register::Number(_, _) => false,
-            Register::Bits(_, _) => false,
-        }
-    }
-
-    pub fn is_number(self) -> bool
-        ensures { λ r. ⌜ r ≡ isNumber (kindOf self) ⌝ }
-    {
-        match self {
-            Register::Empty => false,
-            Register::Number(_, _) => true,
             Register::Bits(_, _) => false,
         }
     }

@@ -9,8 +9,12 @@ use Rattle.machine.specs.Registers.{publicOf, sound}
 use Rattle.machine.specs.declared.orders.Order.{Order}
 use Rattle.machine.specs.declared.orders.Order.the-variants.{Add, Compose, Convert, Deal, Decompose, Multiply, Open, Scale, Shift}
 use Rattle.machine.specs.declared.registers.Machine.{Machine}
-use Rattle.order.specs.Answers.{firstOf}
+use Rattle.machine.specs.declared.answers.Refusal.{Refusal}
+use Rattle.order.specs.Answers.{firstOf, numberOf, verdictOf}
 use Rattle.order.specs.Attempts.{beginChecks, recordRefusal}
+use Rattle.order.specs.declared.answers.Verdict.{Verdict}
+use Rattle.order.specs.declared.answers.Verdict.the-variants.{Because, Fine}
+use Rattle.order.proofs.VerdictLaw.{first-refusal}
 
 -- no check of the list refuses with 0
 abbrev pub refusing : List Check → Bool
@@ -76,3 +80,11 @@ begin-twice sure d x e =
 -- one list, then another
 pub then-joined : (ks ls : List Check) → T (refusing ks) → {u v w : ℕ} → u ≡ firstOf v w → v ≡ firstMet ks → w ≡ firstMet ls → u ≡ firstMet (ks ++ ls)
 then-joined ks ls h e f g = e ∙ ap₂ firstOf f g ∙ sym (joined ks ls h)
+
+-- where the first of them has given a verdict
+module _ (ks ls : List Check) (h : T (refusing ks)) {v : Verdict} (first : verdictOf v ≡ firstMet ks) where
+  pub refused-first : {w : Refusal} → v ≡ Because w → numberOf w ≡ firstMet (ks ++ ls)
+  refused-first {w} e = then-joined ks ls h (first-refusal w _) (sym (ap verdictOf e) ∙ first) refl
+
+  pub fine-first : {n : ℕ} → v ≡ Fine → n ≡ firstMet ls → n ≡ firstMet (ks ++ ls)
+  fine-first e = then-joined ks ls h refl (sym (ap verdictOf e) ∙ first)

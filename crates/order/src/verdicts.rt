@@ -53,6 +53,17 @@ fn a_number(x: Register) -> Verdict
     }
 }
 
+// Checks 3 and 4 of a source that must be bits.
+fn some_bits(x: Register) -> Verdict
+    ensures { λ v. ⌜ verdictOf v ≡ firstMet (check (isEmpty (kindOf x)) 3 ∷ check (isNumber (kindOf x)) 4 ∷ []) ⌝ }
+{
+    match x {
+        Register::Empty => Verdict::Because(Refusal::EmptySource),
+        Register::Number(_, _) => Verdict::Because(Refusal::WrongKind),
+        Register::Bits(_, _) => Verdict::Fine,
+    }
+}
+
 // Whether a width names no ring.
 pub fn no_ring(e: u64) -> bool
     ensures { λ r. ⌜ r ≡ noRing (ringOf e) ⌝ }
@@ -117,16 +128,20 @@ pub fn pair_why(sound: bool, d: u64, x: u64, y: u64, a: Register, b: Register) -
 pub fn number_why(sound: bool, d: u64, x: u64, a: Register, met: bool, w: Refusal) -> Verdict
     ensures { λ v. ⌜ verdictOf v ≡ firstMet (beginChecks sound (d ∷ x ∷ []) ++ (aNumber (kindOf a) ++ (check met (numberOf w) ∷ []))) ⌝ }
 {
-    let last = refuse_if(met, w);
-    begin(sound, d, x, x).then(a_number(a).then(last))
+    let first = begin(sound, d, x, x);
+    match first {
+        Verdict::Because(why) => Verdict::Because(why),
+        Verdict::Fine => a_number(a).then(refuse_if(met, w)),
+    }
 }
 
 // And of composing.
 pub fn bits_why(sound: bool, d: u64, x: u64, a: Register, met: bool) -> Verdict
     ensures { λ v. ⌜ verdictOf v ≡ firstMet (beginChecks sound (d ∷ x ∷ []) ++ (check (isEmpty (kindOf a)) 3 ∷ check (isNumber (kindOf a)) 4 ∷ check met 5 ∷ [])) ⌝ }
 {
-    let empty = refuse_if(a.is_empty(), Refusal::EmptySource);
-    let number = refuse_if(a.is_number(), Refusal::WrongKind);
-    let last = refuse_if(met, Refusal::NoRing);
-    begin(sound, d, x, x).then(empty.then(number.then(last)))
+    let first = begin(sound, d, x, x);
+    match first {
+        Verdict::Because(why) => Verdict::Because(why),
+        Verdict::Fine => some_bits(a).then(refuse_if(met, Refusal::NoRing)),
+    }
 }
