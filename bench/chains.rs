@@ -1,6 +1,6 @@
 //! Rows of products and of chains of gates: the static library of crates/timing.
 
-use crate::measure::{measure, row};
+use crate::measure::{measure, Row};
 use jobs::draw::Draw;
 use std::cell::RefCell;
 use std::hint::black_box;
@@ -177,18 +177,23 @@ fn gate(draw: &mut Draw, width: u64) -> Vec<f64> {
     times(side(library::gates), side(plain::chains::gates))
 }
 
-pub fn run(draw: &mut Draw) {
+/// Both sides do the same.
+pub fn compare(draw: &mut Draw) {
     for width in WIDTHS {
         compare_lengths(draw, width);
         compare_ranges(draw, width);
     }
-    for width in WIDTHS {
-        row(
-            &format!("product, ring {width}"),
-            &multiplication(draw, width),
-        );
-    }
-    for width in WIDTHS {
-        row(&format!("gate, ring {width}"), &gate(draw, width));
-    }
+}
+
+pub fn rows(draw: &mut Draw) -> Vec<Row> {
+    let mut rows_of = |name: &str, times: fn(&mut Draw, u64) -> Vec<f64>| {
+        WIDTHS.map(|width| Row {
+            name: format!("{name}, ring {width}"),
+            times: times(draw, width),
+        })
+    };
+    [rows_of("product", multiplication), rows_of("gate", gate)]
+        .into_iter()
+        .flatten()
+        .collect()
 }

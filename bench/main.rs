@@ -16,6 +16,7 @@ mod interface;
 mod steps;
 
 use jobs::draw::Draw;
+use measure::{passes, table, Row};
 
 /// Rows that document 000 has in its table 1, with its figure: millions a second, semi-honest, ten million values.
 const TABLE_1: [(&str, f64); 3] = [
@@ -24,20 +25,25 @@ const TABLE_1: [(&str, f64); 3] = [
     ("convert 31 to 61", 4.833),
 ];
 
-fn table_1(timed: &[(&str, f64)]) {
+fn table_1(rows: &[Row]) {
     println!("{:<28} {:>10} {:>10}", "millions a second", "Rattle", "000");
     for (name, figure) in TABLE_1 {
-        let (_, ns) = timed.iter().find(|row| row.0 == name).unwrap();
-        println!("{name:<28} {:>10.3} {figure:>10.3}", 1e3 / ns);
+        let row = rows.iter().find(|row| row.name == name).unwrap();
+        println!("{name:<28} {:>10.3} {figure:>10.3}", 1e3 / row.times[0]);
     }
 }
 
 fn main() {
     let mut draw = Draw::new(20_240_601);
-    measure::head();
-    chains::run(&mut draw);
-    let timed = orders::run(&mut draw);
-    whole::run(&mut draw);
+    chains::compare(&mut draw);
+    orders::compare(&mut draw);
+    let mut rows = passes(|| {
+        let mut rows = chains::rows(&mut draw);
+        rows.extend(orders::rows(&mut draw));
+        rows
+    });
+    rows.extend(whole::row(&mut draw));
+    table(&rows);
     println!();
-    table_1(&timed);
+    table_1(&rows);
 }

@@ -2,6 +2,8 @@
 
 use std::time::Instant;
 
+const PASSES: usize = 5;
+
 /// Nanoseconds for one call of each side: the least over rounds of so many turns.
 pub fn measure(rounds: usize, turns: usize, sides: &mut [&mut dyn FnMut()]) -> Vec<f64> {
     let mut least = vec![f64::INFINITY; sides.len()];
@@ -17,18 +19,40 @@ pub fn measure(rounds: usize, turns: usize, sides: &mut [&mut dyn FnMut()]) -> V
     least
 }
 
-pub fn head() {
+/// A row of the table: nanoseconds of Rattle, of plain Rust, and of the reference where it has the row.
+pub struct Row {
+    pub name: String,
+    pub times: Vec<f64>,
+}
+
+impl Row {
+    fn print(&self) {
+        let Row { name, times } = self;
+        print!("{name:<28} {:>10.1}", times[0]);
+        for time in &times[1..] {
+            print!(" {time:>10.1} {:>6.2}", times[0] / time);
+        }
+        println!();
+    }
+}
+
+/// The rows of several passes, each time the least of them: what else the machine does lasts longer than a row.
+pub fn passes(mut pass: impl FnMut() -> Vec<Row>) -> Vec<Row> {
+    let mut rows = pass();
+    for _ in 1..PASSES {
+        for (row, again) in rows.iter_mut().zip(pass()) {
+            for (least, time) in row.times.iter_mut().zip(again.times) {
+                *least = least.min(time);
+            }
+        }
+    }
+    rows
+}
+
+pub fn table(rows: &[Row]) {
     println!(
         "{:<28} {:>10} {:>10} {:>6} {:>10} {:>6}",
         "ns", "Rattle", "plain Rust", "ratio", "reference", "ratio"
     );
-}
-
-/// Rattle's time, plain Rust's, and the reference's where it has the row.
-pub fn row(name: &str, times: &[f64]) {
-    print!("{name:<28} {:>10.1}", times[0]);
-    for time in &times[1..] {
-        print!(" {time:>10.1} {:>6.2}", times[0] / time);
-    }
-    println!();
+    rows.iter().for_each(Row::print);
 }

@@ -2,7 +2,7 @@
 
 use crate::arena::Arena;
 use crate::interface;
-use crate::measure::{measure, row};
+use crate::measure::{measure, Row};
 use crate::steps::Case;
 use jobs::draw::Draw;
 use jobs::orders::{needs, Needs};
@@ -146,7 +146,7 @@ fn times(draw: &mut Draw, order: &[u64]) -> Vec<f64> {
 }
 
 /// Plain Rust does what the reference does, on accepted, refused and malformed orders.
-fn compare(draw: &mut Draw) {
+pub fn compare(draw: &mut Draw) {
     let mut expected = Arena::new(draw);
     let mut found = expected.clone();
     for _ in 0..CASES {
@@ -170,13 +170,10 @@ fn compare(draw: &mut Draw) {
     assert!(expected == found, "plain Rust writes other words");
 }
 
-/// Prints the rows; the time of each order in Rattle.
-pub fn run(draw: &mut Draw) -> Vec<(&'static str, f64)> {
-    compare(draw);
-    let timed = ROWS.iter().map(|(name, order)| {
-        let times = times(draw, order);
-        row(name, &times);
-        (*name, times[0])
-    });
-    timed.collect()
+pub fn rows(draw: &mut Draw) -> Vec<Row> {
+    let row = |(name, order): &(&str, [u64; 4])| Row {
+        name: name.to_string(),
+        times: times(draw, order),
+    };
+    ROWS.iter().map(row).collect()
 }

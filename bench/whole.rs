@@ -1,6 +1,6 @@
 //! The row of whole jobs: programs run on one file of a million lines.
 
-use crate::measure::{measure, row};
+use crate::measure::{measure, Row};
 use jobs::draw::Draw;
 use jobs::orders::sensible;
 use jobs::valid::choose;
@@ -57,14 +57,16 @@ fn times() -> Vec<f64> {
     times.iter().map(|time| time / LAST_LINE as f64).collect()
 }
 
-pub fn run(draw: &mut Draw) {
+/// The row, where all programs are there.
+pub fn row(draw: &mut Draw) -> Option<Row> {
     if let Some(missing) = PROGRAMS.iter().find(|program| !Path::new(program).exists()) {
-        println!("{NAME:<28} left out: there is no {missing}");
-        return;
+        println!("{NAME} left out: there is no {missing}");
+        return None;
     }
     write(JOB, job(draw)).unwrap();
     let [ours, plain, reference] = PROGRAMS.map(printed);
     assert!(ours == reference, "Rattle prints something else");
     assert!(plain == reference, "plain Rust prints something else");
-    row(NAME, &times());
+    let (name, times) = (NAME.to_string(), times());
+    Some(Row { name, times })
 }
