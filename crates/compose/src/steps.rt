@@ -28,8 +28,8 @@ pub fn multiply(
     ensures is { λ z. ⌜ Left (multiplication (modulusOf r)) (parts x) (parts y) (three (now (m0 .entry)) (now (m1 .entry)) (now (m2 .entry))) (three (now (c0 .entry)) (now (c1 .entry)) (now (c2 .entry))) z (three (now (c0 .exit)) (now (c1 .exit)) (now (c2 .exit))) ⌝ }
     ensures below { λ z. ⌜ InRange (modulusOf r) z ⌝ }
 {
-    let k = r.width() / 2;
+    let e = r.width();
     let p = r.modulus();
     let t = items_at(m0, m1, m2, 0);
-    ring_gate(k, p, x, y, t, c0, c1, c2)
+    ring_gate(e, p, x, y, t, c0, c1, c2)
 }

@@ -1,7 +1,7 @@
 // The gate: each party's word goes to the head of its channel, and the words are the new sub-shares.
 ghost use mathlib.Core.Path.{_≡_};
 ghost use Prim.Native.Nat.{_+_, _*_, _<_, _≤_};
-ghost use Rattle.ring.specs.Rings.{Halved, Sized};
+ghost use Rattle.ring.specs.Rings.{Sized};
 ghost use Rattle.gate.specs.Gates.{gated};
 ghost use Rattle.gate.specs.Places.{InRange, Room, Sent, parts, sharing, three};
 use crate::sharing::Sharing;
@@ -20,9 +20,9 @@ pub fn send(z: Sharing, c0: &mut [u64], c1: &mut [u64], c2: &mut [u64])
     c2[0] = z.s2;
 }
 
-// One gate modulo p = 2^(2k+1) - 1, from numbers so that a loop over gates finds them once.
+// One gate modulo p = 2^e - 1, from numbers so that a loop over gates finds them once.
 pub fn ring_gate(
-    k: u64,
+    e: u64,
     p: u64,
     x: Sharing,
     y: Sharing,
@@ -31,7 +31,7 @@ pub fn ring_gate(
     c1: &mut [u64],
     c2: &mut [u64],
 ) -> Sharing
-    requires halved { ⌜ Halved k p ⌝ }
+    requires sized { ⌜ Sized e p ⌝ }
     requires left { ⌜ InRange p x ⌝ }
     requires right { ⌜ InRange p y ⌝ }
     requires items { ⌜ InRange p t ⌝ }
@@ -40,7 +40,7 @@ pub fn ring_gate(
     ensures below { λ z. ⌜ InRange p z ⌝ }
     ensures sent { λ z. ⌜ Sent z (now (c0 .entry)) (now (c1 .entry)) (now (c2 .entry)) (now (c0 .exit)) (now (c1 .exit)) (now (c2 .exit)) ⌝ }
 {
-    let z = ring_words(k, p, x, y, t);
+    let z = ring_words(e, p, x, y, t);
     send(z, c0, c1, c2);
     z
 }

@@ -2,7 +2,7 @@
 ghost use mathlib.Core.Path.{_≡_};
 ghost use Prim.Native.Nat.{_+_, _*_, _%_, _<_, _≤_, _^_};
 ghost use Rattle.ring.specs.Modular.{Cong};
-ghost use Rattle.ring.specs.Rings.{Halved, Sized};
+ghost use Rattle.ring.specs.Rings.{Sized};
 ghost use Rattle.gate.specs.Gates.{gated, mask, word};
 ghost use Rattle.gate.specs.Places.{InRange, PairBelow, pair, parts, sharing, three};
 use crate::sharing::Sharing;
@@ -21,18 +21,17 @@ fn mask_word(p: u64, t: u64, tf: u64) -> u64
     t + (p - tf)
 }
 
-// z_i modulo p = 2^(2k+1) - 1, from the sub-shares i and i + 1 of x, of y and of the items.
-fn ring_word(k: u64, p: u64, x: u64, xf: u64, y: u64, yf: u64, t: u64, tf: u64) -> u64
-    requires halved { ⌜ Halved k p ⌝ }
+// z_i modulo p = 2^e - 1, from the sub-shares i and i + 1 of x, of y and of the items.
+fn ring_word(e: u64, p: u64, x: u64, xf: u64, y: u64, yf: u64, t: u64, tf: u64) -> u64
+    requires sized { ⌜ Sized e p ⌝ }
     requires left { ⌜ PairBelow p (pair x xf) ⌝ }
     requires right { ⌜ PairBelow p (pair y yf) ⌝ }
     requires items { ⌜ PairBelow p (pair t tf) ⌝ }
     ensures is { λ z. ⌜ z ≡ word p (pair x xf) (pair y yf) (pair t tf) ⌝ }
     ensures below { λ z. ⌜ z < p ⌝ }
 {
-    let e = 2 * k + 1;
     let sum = add_mod(e, p, y, yf);
-    mul_add_mod(k, p, x, sum, xf, y, mask_word(p, t, tf))
+    mul_add_mod(e, p, x, sum, xf, y, mask_word(p, t, tf))
 }
 
 // z_i of bits, from the same.
@@ -46,9 +45,9 @@ fn bit_word(x: u64, xf: u64, y: u64, yf: u64, t: u64, tf: u64) -> u64
     (x & (y ^ yf)) ^ (xf & y) ^ t ^ tf
 }
 
-// z_0, z_1 and z_2 modulo p = 2^(2k+1) - 1.
-pub fn ring_words(k: u64, p: u64, x: Sharing, y: Sharing, t: Sharing) -> Sharing
-    requires halved { ⌜ Halved k p ⌝ }
+// z_0, z_1 and z_2 modulo p = 2^e - 1.
+pub fn ring_words(e: u64, p: u64, x: Sharing, y: Sharing, t: Sharing) -> Sharing
+    requires sized { ⌜ Sized e p ⌝ }
     requires left { ⌜ InRange p x ⌝ }
     requires right { ⌜ InRange p y ⌝ }
     requires items { ⌜ InRange p t ⌝ }
@@ -56,9 +55,9 @@ pub fn ring_words(k: u64, p: u64, x: Sharing, y: Sharing, t: Sharing) -> Sharing
     ensures below { λ z. ⌜ InRange p z ⌝ }
 {
     Sharing {
-        s0: ring_word(k, p, x.s0, x.s1, y.s0, y.s1, t.s0, t.s1),
-        s1: ring_word(k, p, x.s1, x.s2, y.s1, y.s2, t.s1, t.s2),
-        s2: ring_word(k, p, x.s2, x.s0, y.s2, y.s0, t.s2, t.s0),
+        s0: ring_word(e, p, x.s0, x.s1, y.s0, y.s1, t.s0, t.s1),
+        s1: ring_word(e, p, x.s1, x.s2, y.s1, y.s2, t.s1, t.s2),
+        s2: ring_word(e, p, x.s2, x.s0, y.s2, y.s0, t.s2, t.s0),
     }
 }
 

@@ -7,7 +7,7 @@ use native.Mathlib.Omega.{arith}
 use borrow.Author.Tests.{eqb-true}
 use lib.Dec.{eqb, lit≤}
 use lib.Pow.{pow-mono}
-use Rattle.ring.specs.Rings.{Halved, Sized, modulusOf, quarterOf, ringOf, widthOf}
+use Rattle.ring.specs.Rings.{Sized, modulus, modulusOf, quarterOf, ringOf, widthOf}
 use Rattle.ring.specs.declared.rings.OfWidth.the-variants.{Named, NoRing}
 use Rattle.ring.specs.declared.rings.Ring.{Ring}
 use Rattle.ring.specs.declared.rings.Ring.the-variants.{R13, R31, R61}
@@ -43,7 +43,7 @@ width-named e {r} named = go (eqb e 13) (eqb e 31) (eqb e 61) refl refl refl nam
 
 -- so of a width and a modulus as numbers
 pub sized : (r : Ring) {e p : ℕ} → e ≡ widthOf r → p ≡ modulusOf r → Sized e p
-sized r he hp = record { is = rw he hp; least = omega (arith, width-ge r); most = omega (arith, width-le r) }
+sized r he hp = record { is = rw he hp; least = omega (arith, width-ge r); most = omega (arith, width-le r); odd = rw he (width-odd r) }
 
 pub sized-lt : {e p : ℕ} → Sized e p → p < 2 ^ 61
 sized-lt {e} h = omega (arith, h, modulus-suc e, pow-mono {i = e} {j = 61} (h .most))
@@ -63,5 +63,6 @@ few-above {e} {p} s h sum =
     let eight : 8 ≤ 2 ^ e = pow-mono {i = 3} (omega (arith, h)) in
     (omega (arith, mul-le-mul (le-refl p) eight), omega (arith, sized-lt h))
 
-pub halved : (r : Ring) {e p : ℕ} → e ≡ widthOf r → p ≡ modulusOf r → Halved (e / 2) p
-halved r he hp = record { is = rw (he, width-odd r) hp; least = omega (arith, width-ge r); most = omega (arith, width-le r) }
+-- by half the width, which products are cut by
+pub halved : {e p : ℕ} → Sized e p → p ≡ modulus (2 * (e / 2) + 1)
+halved h = rw (h .odd) (h .is)

@@ -45,9 +45,4 @@ pub record Sized (e p : ℕ) : Type 0 where
   pub is : p ≡ modulus e
   pub least : 13 ≤ e
   pub most : e ≤ 61
-
--- the same with half the width, rounded down: what products are cut by
-pub record Halved (k p : ℕ) : Type 0 where
-  pub is : p ≡ modulus (2 * k + 1)
-  pub least : 2 ≤ k
-  pub most : k ≤ 30
+  pub odd : 2 * (e / 2) + 1 ≡ e

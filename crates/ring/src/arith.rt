@@ -39,7 +39,7 @@ impl Ring {
         ensures is { λ r. ⌜ r ≡ (a * b) % modulusOf self ⌝ }
         ensures below { λ r. ⌜ r < modulusOf self ⌝ }
     {
-        mul_mod(self.width() / 2, self.modulus(), a, b)
+        mul_mod(self.width(), self.modulus(), a, b)
     }
 
     // s modulo p, of a sum of up to seven numbers below p.

@@ -3,7 +3,7 @@
 ghost use mathlib.Core.Path.{_≡_};
 ghost use Prim.Native.Nat.{_+_, _*_, _/_, _%_, _<_, _≤_, _^_};
 ghost use Rattle.ring.specs.Modular.{Cong, diff};
-ghost use Rattle.ring.specs.Rings.{Halved, Sized, modulus, rotated};
+ghost use Rattle.ring.specs.Rings.{Sized, modulus, rotated};
 
 // a + b modulo p.
 pub fn add_mod(e: u64, p: u64, a: u64, b: u64) -> u64
@@ -29,33 +29,33 @@ pub fn sub_mod(e: u64, p: u64, a: u64, b: u64) -> u64
     reduce_once(e, p, a + (p - b))
 }
 
-// a × b modulo p = 2^(2k+1) - 1.
-pub fn mul_mod(k: u64, p: u64, a: u64, b: u64) -> u64
-    requires halved { ⌜ Halved k p ⌝ }
+// a × b modulo p.
+pub fn mul_mod(e: u64, p: u64, a: u64, b: u64) -> u64
+    requires sized { ⌜ Sized e p ⌝ }
     requires left { ⌜ a < p ⌝ }
     requires right { ⌜ b < p ⌝ }
     ensures is { λ r. ⌜ r ≡ (a * b) % p ⌝ }
     ensures below { λ r. ⌜ r < p ⌝ }
 {
-    reduce_short(2 * k + 1, p, columns(k, p, a, b, 0, 0))
+    reduce_short(e, p, columns(e / 2, p, a, b, 0, 0))
 }
 
-// a × b + c × d + s modulo p = 2^(2k+1) - 1, reduced once for all three.
-pub fn mul_add_mod(k: u64, p: u64, a: u64, b: u64, c: u64, d: u64, s: u64) -> u64
-    requires halved { ⌜ Halved k p ⌝ }
+// a × b + c × d + s modulo p, reduced once for all three.
+pub fn mul_add_mod(e: u64, p: u64, a: u64, b: u64, c: u64, d: u64, s: u64) -> u64
+    requires sized { ⌜ Sized e p ⌝ }
     requires left { ⌜ (a < p) × (b < p) ⌝ }
     requires right { ⌜ (c < p) × (d < p) ⌝ }
     requires sum { ⌜ s < p + p ⌝ }
     ensures is { λ r. ⌜ r ≡ (a * b + c * d + s) % p ⌝ }
     ensures below { λ r. ⌜ r < p ⌝ }
 {
-    let e = 2 * k + 1;
-    reduce_short(e, p, fold(e, p, columns(k, p, a, b, c, d)) + s)
+    reduce_short(e, p, fold(e, p, columns(e / 2, p, a, b, c, d)) + s)
 }
 
-// a × b + c × d in 64-bit words, not reduced: the factors are cut above bit k, the middle column at bit k.
+// a × b + c × d modulo p = 2^(2k+1) - 1 in 64-bit words, not reduced: the factors are cut above bit k, the middle column at bit k.
 fn columns(k: u64, p: u64, a: u64, b: u64, c: u64, d: u64) -> u64
-    requires halved { ⌜ Halved k p ⌝ }
+    requires modulus { ⌜ p ≡ modulus (2 * k + 1) ⌝ }
+    requires width { ⌜ (2 ≤ k) × (k ≤ 30) ⌝ }
     requires left { ⌜ (a < p) × (b < p) ⌝ }
     requires right { ⌜ (c < p) × (d < p) ⌝ }
     ensures is { λ r. ⌜ Cong p r (a * b + c * d) ⌝ }

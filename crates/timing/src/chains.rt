@@ -5,7 +5,7 @@ ghost use lib.ListN.{length};
 ghost use Rattle.gate.specs.Lent.{atEntry, atExit};
 ghost use Rattle.gate.specs.Places.{InRange};
 ghost use Rattle.ring.specs.Lent.{Stands};
-ghost use Rattle.ring.specs.Rings.{Halved, modulusOf};
+ghost use Rattle.ring.specs.Rings.{Sized, modulusOf};
 ghost use Rattle.timing.specs.Chains.{Ran, Shape, chain, gates, inRange, shaped, started, tripleAt};
 use crate::products::same_lengths;
 use gate::Sharing;
@@ -39,9 +39,9 @@ fn lengths_fit(x: usize, y: usize, items: usize, n0: usize, n1: usize, n2: usize
     (x == 3) & (y == 3) & same_lengths(n1, n2, n0) & (n0 <= items / 3)
 }
 
-// Gates modulo p = 2^(2k+1) - 1 from x on, up to the first item out of range.
+// Gates modulo p = 2^e - 1 from x on, up to the first item out of range.
 fn run_chain(
-    k: u64,
+    e: u64,
     p: u64,
     x: Sharing,
     y: Sharing,
@@ -50,7 +50,7 @@ fn run_chain(
     c1: &mut [u64],
     c2: &mut [u64],
 ) -> usize
-    requires halved { ⌜ Halved k p ⌝ }
+    requires sized { ⌜ Sized e p ⌝ }
     requires left { ⌜ InRange p x ⌝ }
     requires right { ⌜ InRange p y ⌝ }
     requires lengths { ⌜ Shape (now items) (now c0) (now c1) (now c2) ⌝ }
@@ -63,7 +63,7 @@ fn run_chain(
         if !in_range(p, t) {
             return i;
         }
-        z = ring_gate(k, p, z, y, t, &mut c0[i..], &mut c1[i..], &mut c2[i..]);
+        z = ring_gate(e, p, z, y, t, &mut c0[i..], &mut c1[i..], &mut c2[i..]);
         i += 1;
     }
     i
@@ -82,10 +82,10 @@ fn start_chain(
     requires { ⌜ Shape (now items) (now c0) (now c1) (now c2) ⌝ }
     ensures { λ n. ⌜ Ran (started (modulusOf r) x y (now (items .entry)) (length (now (c0 .entry)))) n (atEntry c0 c1 c2) (atExit c0 c1 c2) ⌝ }
 {
-    let k = r.width() / 2;
+    let e = r.width();
     let p = r.modulus();
     if in_range(p, x) & in_range(p, y) {
-        return run_chain(k, p, x, y, items, c0, c1, c2);
+        return run_chain(e, p, x, y, items, c0, c1, c2);
     }
     0
 }

@@ -3,7 +3,7 @@ ghost use mathlib.Core.Path.{_≡_};
 ghost use Prim.Native.Nat.{_+_, _*_, _≤_};
 ghost use lib.ListN.{length};
 ghost use Rattle.ring.specs.Lent.{Stands};
-ghost use Rattle.ring.specs.Rings.{Halved, modulusOf};
+ghost use Rattle.ring.specs.Rings.{Sized, modulusOf};
 ghost use Rattle.timing.specs.Products.{alike, multiplied, outcome, product, products};
 use ring::OfWidth;
 use ring::Ring;
@@ -16,14 +16,14 @@ pub fn same_lengths(a: usize, b: usize, n: usize) -> bool
     (a == n) & (b == n)
 }
 
-// x × y modulo p = 2^(2k+1) - 1, or 0 where one is out of range.
-fn checked_product(k: u64, p: u64, x: u64, y: u64) -> u64
-    requires halved { ⌜ Halved k p ⌝ }
+// x × y modulo p = 2^e - 1, or 0 where one is out of range.
+fn checked_product(e: u64, p: u64, x: u64, y: u64) -> u64
+    requires sized { ⌜ Sized e p ⌝ }
     ensures { λ z. ⌜ z ≡ product p x y ⌝ }
 {
     if x < p {
         if y < p {
-            return mul_mod(k, p, x, y);
+            return mul_mod(e, p, x, y);
         }
     }
     0
@@ -35,11 +35,11 @@ fn multiply_all(r: Ring, xs: &[u64], ys: &[u64], zs: &mut [u64])
     requires right { ⌜ length (now ys) ≡ length (now zs) ⌝ }
     ensures { λ _. ⌜ now (zs .exit) ≡ products (modulusOf r) (now (xs .entry)) (now (ys .entry)) ⌝ }
 {
-    let k = r.width() / 2;
+    let e = r.width();
     let p = r.modulus();
     let mut i = 0;
     while i < zs.len() {
-        zs[i] = checked_product(k, p, xs[i], ys[i]);
+        zs[i] = checked_product(e, p, xs[i], ys[i]);
         i += 1;
     }
 }

@@ -1,7 +1,7 @@
 -- One gate is the whole order.
 use native.Mathlib.Omega.{arith}
 use borrow.Author.Needs.{needs}
-use Rattle.ring.proofs.RangeLaw.{halved}
+use Rattle.ring.proofs.RangeLaw.{sized}
 use Rattle.circuit.proofs.TurnLaw.{items-in}
 use Rattle.compose.proofs.StepLaw.{multiplied}
 use Rattle.compose.proofs.steps.multiply.Statement.{statement}
@@ -16,7 +16,7 @@ fits c κs =
     let known = taken .before in
     let begun = start known in
     let is = known .modulus .ensures in
-    let sizes = halved (begun .args .r) (known .before .width .ensures) is in
+    let sizes = sized (begun .args .r) (known .before .width .ensures) is in
     let items = items-in (omega arith) (taken .items-at .ensures) (begun .pre .1 .1 .1 .0) in
     (sizes, (rw is (begun .pre .0), (rw is (begun .pre .1 .0), (rw is items, search needs))))
 

@@ -1,7 +1,6 @@
-use borrow.Author.Needs.{needs}
 use mathlib.Core.Path.{_∙_}
 use native.Mathlib.Omega.{arith}
-use Rattle.ring.proofs.FoldLaw.{modulus-room}
+use Rattle.ring.proofs.RangeLaw.{sized-lt}
 use Rattle.gate.proofs.WordLaw.{ring-word-is}
 use Rattle.gate.proofs.words.ring_word.Statement.{statement}
 use Rattle.gate.proofs.words.ring_word.Tie as tie
@@ -16,9 +15,7 @@ pub ring-word-spec : {M : Type 1} → statement M
 ring-word-spec =
     tie.close
     (tie.spec
-    (λ c. search needs)
-    (λ c. search needs)
-    (λ c κs. search needs)
-    (λ c κs. (omega (arith, modulus-room (c .before .pre .0 .is) (omega arith)), c .before .pre .1 .1 .1))
+    (λ c κs. omega (arith, c .pre .0))
+    (λ c κs. (omega (arith, sized-lt (c .before .pre .0)), c .before .pre .1 .1 .1))
     (λ c κs. (c .before .before .pre .0, omega arith))
     returns)

@@ -9,14 +9,14 @@ use Rattle.ring.proofs.modular.columns.Statement.{statement}
 use Rattle.ring.proofs.modular.columns.Tie as tie
 
 left : (c : tie.Start) → Parted (c .args .k) (c .args .p) (c .args .a) (c .args .b)
-left c = parted (c .args .k) (c .args .p) (c .pre .0 .is) (c .pre .1 .0 .0) (c .pre .1 .0 .1)
+left c = parted (c .args .k) (c .args .p) (c .pre .0) (c .pre .1 .1 .0 .0) (c .pre .1 .1 .0 .1)
 
 right : (c : tie.Start) → Parted (c .args .k) (c .args .p) (c .args .c) (c .args .d)
-right c = parted (c .args .k) (c .args .p) (c .pre .0 .is) (c .pre .1 .1 .0) (c .pre .1 .1 .1)
+right c = parted (c .args .k) (c .args .p) (c .pre .0) (c .pre .1 .1 .1 .0) (c .pre .1 .1 .1 .1)
 
 center : (c : tie.Start)
     → Carried (c .args .k) (c .args .p) (middle (c .args .k) (c .args .p) (c .args .a) (c .args .b) (c .args .c) (c .args .d))
-center c = carried (c .args .k) (c .args .p) (c .pre .0 .is) _ (c .pre .0 .least) (c .pre .0 .most) (omega (arith, left c, right c))
+center c = carried (c .args .k) (c .args .p) (c .pre .0) _ (c .pre .1 .0 .0) (c .pre .1 .0 .1) (omega (arith, left c, right c))
 
 room : (c : tie.Start)
     → summed (c .args .k) (c .args .p) (c .args .a) (c .args .b) (c .args .c) (c .args .d) < c .args .p * 2 ^ (2 * c .args .k + 1)
@@ -28,7 +28,7 @@ room c =
 
 returns : tie.Need-returns
 returns c = (
-  summed-cong (c .args .k) (c .args .p) (c .pre .0 .is) (c .args .a) (c .args .b) (c .args .c) (c .args .d) (c .pre .0 .most),
+  summed-cong (c .args .k) (c .args .p) (c .pre .0) (c .args .a) (c .args .b) (c .args .c) (c .args .d) (c .pre .1 .0 .1),
   (room c, omega (arith, left c, right c, center c)),
 )
 

@@ -4,8 +4,14 @@ use Prim.Native.Nat.{_+_, _*_}
 use mathlib.Core.Path.{_≡_, _∙_}
 use native.Mathlib.Omega.{arith}
 use Rattle.ring.proofs.CongLaw.{cong-of-eq, cong-trans}
+use Rattle.ring.proofs.RangeLaw.{halved, sized-gt}
 use Rattle.ring.proofs.modular.mul_mod.Statement.{statement}
 use Rattle.ring.proofs.modular.mul_mod.Tie as tie
+
+fits : tie.Need-reduce-short-requires
+fits c κs =
+    let known = c .before .pre .0 in
+    (known .is, (omega (arith, known), rw (known .odd) at (c .columns .ensures .1)))
 
 returns : tie.Need-returns
 returns c =
@@ -16,4 +22,4 @@ returns c =
 pub mul-mod-spec : {M : Type 1} → statement M
 mul-mod-spec =
     tie.close
-    (tie.spec (λ c. search needs) (λ c. search needs) (λ c κs. search needs) (λ c κs. search needs) returns)
+    (tie.spec (λ c κs. omega (arith, c .pre .0, halved (c .pre .0), sized-gt (c .pre .0))) fits returns)

@@ -12,12 +12,12 @@ use Rattle.timing.proofs.chains.run_chain.Statement.{statement}
 use Rattle.timing.proofs.chains.run_chain.Tie as tie
 
 abbrev Inv-loop : tie.InvT-loop
-Inv-loop k p y items c0₀ c1₀ c2₀ z₀ i₀ c0 c1 c2 z i =
+Inv-loop e p y items c0₀ c1₀ c2₀ z₀ i₀ c0 c1 c2 z i =
     (length c0 ≡ length c0₀) × (length c1 ≡ length c1₀) × (length c2 ≡ length c2₀) × (i ≤ length c0₀)
     × InRange p z × Reached p z₀ y items (three c0₀ c1₀ c2₀) i z (three c0 c1 c2)
 
 abbrev μ-loop : tie.MeasureT-loop
-μ-loop k p y items c0₀ c1₀ c2₀ z₀ i₀ c0 c1 c2 z i = length c0₀ - i
+μ-loop e p y items c0₀ c1₀ c2₀ z₀ i₀ c0 c1 c2 z i = length c0₀ - i
 
 holds : tie.Need-loop-holds Inv-loop μ-loop
 holds c = (refl, refl, refl, omega arith, c .before .before .before .before .pre .1 .0, at-start _ _ _ _ _)

@@ -2,7 +2,7 @@
 use mathlib.Core.Bool.{and-eq-true-iff}
 use mathlib.Core.Path.{refl}
 use borrow.Author.Needs.{needs}
-use Rattle.ring.proofs.RangeLaw.{halved}
+use Rattle.ring.proofs.RangeLaw.{sized}
 use Rattle.timing.proofs.ChainLaw.{nothing, range-of, started-as, test-of}
 use Rattle.timing.proofs.chains.start_chain.Statement.{statement}
 use Rattle.timing.proofs.chains.start_chain.Tie as tie
@@ -15,7 +15,7 @@ requires c κs =
     let known = first .before in
     let start = known .before .before .before .before .before .before in
     let told = and-eq-true-iff _ _ .0 (tested .if1 .taken) in
-    let sizes = halved (start .args .r) (known .before .width .ensures) (known .modulus .ensures) in
+    let sizes = sized (start .args .r) (known .before .width .ensures) (known .modulus .ensures) in
     let left = range-of (test-of _ refl (first .in-range .ensures) (told .0)) in
     let right = range-of (test-of _ refl (second .in-range2 .ensures) (told .1)) in
     (sizes, (left, (right, start .pre)))

@@ -1,27 +1,27 @@
 -- Invariant: the products written, with those that are left, are all of them.
-use Prim.Native.Nat.{_/_, _-_, _≤_}
+use Prim.Native.Nat.{_-_, _≤_}
 use mathlib.Core.List.{_++_}
 use mathlib.Core.Path.{_≡_, refl, sym, _∙_}
 use native.Mathlib.Omega.{arith}
 use borrow.Author.Needs.{needs}
 use lib.ListN.{drop, length, length-set, take}
-use Rattle.ring.specs.Rings.{Halved}
-use Rattle.ring.proofs.RangeLaw.{halved}
+use Rattle.ring.specs.Rings.{Sized}
+use Rattle.ring.proofs.RangeLaw.{sized}
 use Rattle.timing.specs.Products.{products}
 use Rattle.timing.proofs.ProductLaw.{all-done, one-more}
 use Rattle.timing.proofs.products.multiply_all.Statement.{statement}
 use Rattle.timing.proofs.products.multiply_all.Tie as tie
 
 abbrev Inv-loop : tie.InvT-loop
-Inv-loop xs ys zs₀ k p i₀ zs i =
+Inv-loop xs ys zs₀ e p i₀ zs i =
     (length zs ≡ length zs₀) × (i ≤ length zs₀)
     × (products p xs ys ≡ take i zs ++ products p (drop i xs) (drop i ys))
 
 abbrev μ-loop : tie.MeasureT-loop
-μ-loop xs ys zs₀ k p i₀ zs i = length zs₀ - i
+μ-loop xs ys zs₀ e p i₀ zs i = length zs₀ - i
 
-sizes : (c : tie.After-modulus Inv-loop μ-loop) → Halved (c .before .width .result / 2) (c .modulus .result)
-sizes c = halved (c .before .before .before .before .before .args .r) (c .before .width .ensures) (c .modulus .ensures)
+sizes : (c : tie.After-modulus Inv-loop μ-loop) → Sized (c .before .width .result) (c .modulus .result)
+sizes c = sized (c .before .before .before .before .before .args .r) (c .before .width .ensures) (c .modulus .ensures)
 
 again : tie.Need-loop-again Inv-loop μ-loop
 again c =
