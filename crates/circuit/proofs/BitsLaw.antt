@@ -1,9 +1,10 @@
 -- Bits of words: taken, stored and gathered.
 use Prim.Native.Nat.{ℕ, zero, suc, _+_, _*_, _-_, _/_, _%_, _<_, _≤_, _^_}
 use mathlib.Core.Path.{_≡_, ap, ap₂, refl, sym, _∙_}
-use native.Mathlib.Nat.{add-comm, add-mul-div-left, add-mul-div-right, add-mul-mod-self-right, add-suc, add-zero, div-eq-of-lt, mod-eq-of-lt, mod-lt, mod-one, mul-le-mul-right, pow-suc, zero-add}
+use native.Mathlib.Nat.{add-comm, add-mul-div-left, add-mul-div-right, add-mul-mod-self-right, add-suc, add-zero, div-eq-of-lt, mod-eq-of-lt, mod-lt, mod-one, mul-le-mul-right, pow-suc, zero-add, zero-div}
 use native.Mathlib.Numerals.{one-add}
 use native.Mathlib.Omega.{arith}
+use borrow.Author.Count.{below-more}
 use lib.Bits.{bitXor, xor-mod, xor-shr}
 use lib.Dec.{lit<}
 use lib.Pow.{high, mod-pow-add, pow-add, pow-pos, shr-shr}
@@ -14,6 +15,10 @@ use Rattle.circuit.specs.Bits.{gather, xor}
 pub bit-lt : (w j : ℕ) → bitOf w j < 2
 unfolding bitOf
 bit-lt w j = omega arith
+
+pub bit-none : (j : ℕ) → bitOf 0 j ≡ 0
+unfolding bitOf
+bit-none j = ap (λ (n : ℕ). n % 2) (zero-div (2 ^ j))
 
 -- bit j of an exclusive or
 pub bit-xor : (a b j : ℕ) → bitOf (bitXor a b) j ≡ xor (bitOf a j) (bitOf b j)
@@ -59,6 +64,15 @@ gather-same zero same = refl
 gather-same (suc n) same =
     ap₂ (λ (g d : ℕ). g + d * 2 ^ n) (gather-same n (λ j h. same j (omega arith))) (same n (omega arith))
 
+-- bit k of a word made of bits
+pub gather-at : (n : ℕ) (b : ℕ → ℕ) → ((j : ℕ) → b j < 2) → (k : ℕ) → k < n → bitOf (gather n b) k ≡ b k
+unfolding gather
+gather-at zero b bits k h = absurd (omega arith)
+gather-at (suc n) b bits k h =
+    below-more (λ (j : ℕ). bitOf (gather n b + b n * 2 ^ n) j ≡ b j) n
+    (λ j inside. stored-low n j (gather n b) (b n) inside ∙ gather-at n b bits j inside)
+    (stored-bit n (gather-lt n b bits) (bits n)) k (omega arith)
+
 -- the low s bits, and the k above them
 pub gather-split : (s k : ℕ) (b : ℕ → ℕ) → gather (s + k) b ≡ gather s b + 2 ^ s * gather k (λ j. b (s + j))
 unfolding gather
@@ -76,6 +90,15 @@ gather-high s n b bits =
     ∙ add-mul-div-left (gather s b) high (pow-pos s)
     ∙ ap (λ (r : ℕ). r + high) (div-eq-of-lt below)
     ∙ zero-add high)
+
+-- no bit from s on
+pub gather-ends : (s k : ℕ) (b : ℕ → ℕ) → ((j : ℕ) → s ≤ j → j < s + k → b j ≡ 0) → gather (s + k) b ≡ gather s b
+unfolding gather
+gather-ends s zero b none = ap (λ (n : ℕ). gather n b) (add-zero s)
+gather-ends s (suc k) b none =
+    ap (λ (n : ℕ). gather n b) (add-suc s k)
+    ∙ ap₂ (λ (g d : ℕ). g + d * 2 ^ (s + k)) (gather-ends s k b (λ j from h. none j from (omega arith))) (none (s + k) (omega arith) (omega arith))
+    ∙ omega arith
 
 -- a word is made of its bits
 pub gather-bits : (n w : ℕ) → gather n (bitOf w) ≡ w % 2 ^ n

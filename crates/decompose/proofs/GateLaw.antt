@@ -63,13 +63,13 @@ majority-is x y c t {z = z} hl hr hz sent hb =
     (hb ∙ ap (bitsXor c) said, rw said at sent)
 
 -- (i) the carry gate, on bits that are known at one place each
-abbrev atZero : Sharing → Sharing
+abbrev pub atZero : Sharing → Sharing
 atZero b = record { s0 = b .s0; s1 = 0; s2 = 0 }
 
-abbrev atOne : Sharing → Sharing
+abbrev pub atOne : Sharing → Sharing
 atOne b = record { s0 = 0; s1 = b .s1; s2 = 0 }
 
-abbrev atTwo : Sharing → Sharing
+abbrev pub atTwo : Sharing → Sharing
 atTwo b = record { s0 = 0; s1 = 0; s2 = b .s2 }
 
 pub carry-turned : {x b carry carries r t : Sharing} (j : ℕ) {c₀ c₁ c₂ d₀ d₁ d₂ : List ℕ}

@@ -1,0 +1,4 @@
+pub mod LaneLaw
+pub mod GateLaw
+pub mod StageLaw
+pub mod OrderLaw
