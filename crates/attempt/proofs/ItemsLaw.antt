@@ -141,7 +141,7 @@ below p (suc n) t e (suc k) h =
     rw (getD-drop 1 t k 0 ∙ ap (λ (j : ℕ). getD t j 0) (one-add k)) at
     (below p n (drop 1 t) (other-false (leb p (getD t 0 0)) _ e) k (omega arith))
 
-items-below : (p n : ℕ) {t₀ t₁ t₂ : List ℕ} → anyBad (replicate n p) (three t₀ t₁ t₂) ≡ false → ItemsBelow p n t₀ t₁ t₂
+pub items-below : (p n : ℕ) {t₀ t₁ t₂ : List ℕ} → anyBad (replicate n p) (three t₀ t₁ t₂) ≡ false → ItemsBelow p n t₀ t₁ t₂
 unfolding anyBad
 items-below p n {t₀} {t₁} {t₂} e =
     let rest = other-false (anyOutside (replicate n p) t₀) _ e in

@@ -22,7 +22,7 @@ use order::too_few;
 use order::uneven;
 
 // Checks 8, 9 and 11, for n gates, on the lengths of mask tapes and channels.
-fn room(
+pub fn room(
     masks_at: u64,
     channels_at: u64,
     n: u64,

@@ -21,7 +21,7 @@ fn beyond(p: u64, w: u64) -> u64
 }
 
 // Whether one of the first n items of the three tapes is p or more. No item is tested by itself, so time does not tell which.
-fn any_outside(p: u64, n: u64, m0: &[u64], m1: &[u64], m2: &[u64]) -> bool
+pub fn any_outside(p: u64, n: u64, m0: &[u64], m1: &[u64], m2: &[u64]) -> bool
     requires modulus { ⌜ p ≤ 2 ^ 63 ⌝ }
     requires long { ⌜ Long n (now m0) (now m1) (now m2) ⌝ }
     ensures { λ r. ⌜ r ≡ anyBad (replicate n p) (three (now (m0 .entry)) (now (m1 .entry)) (now (m2 .entry))) ⌝ }

@@ -4,3 +4,5 @@ mod items;
 mod words;
 
 pub use attempts::attempt;
+pub use attempts::room;
+pub use items::any_outside;

@@ -4,8 +4,8 @@ ghost use Prim.Native.Nat.{_+_, _*_, _<_, _≤_};
 ghost use lib.ListN.{length};
 ghost use Rattle.ring.specs.Rings.{modulusOf, widthOf};
 ghost use Rattle.gate.specs.Lent.{atEntry, atExit};
-ghost use Rattle.circuit.specs.Lent.{Long};
-ghost use Rattle.planes.specs.Planes.{AllBelow, NoPlanes};
+ghost use Rattle.circuit.specs.Lent.{ItemsBelow, Long};
+ghost use Rattle.planes.specs.Planes.{NoPlanes};
 ghost use Rattle.lanes.specs.Stages.{GatesRan, Laned, ResultPlanes, Worked};
 use crate::stages::carry_lanes;
 use crate::stages::raising_lanes;
@@ -125,9 +125,7 @@ pub fn decompose_lanes(
     requires channels { ⌜ Long (3 * l + 1) (now c0) (now c1) (now c2) ⌝ }
     requires lengths { ⌜ (length (now a0) ≡ 64) × (length (now a1) ≡ 64) × (length (now a2) ≡ 64) ⌝ }
     requires results { ⌜ (length (now z0) ≡ 64) × (length (now z1) ≡ 64) × (length (now z2) ≡ 64) ⌝ }
-    requires first { ⌜ AllBelow (modulusOf r) (now a0) ⌝ }
-    requires second { ⌜ AllBelow (modulusOf r) (now a1) ⌝ }
-    requires third { ⌜ AllBelow (modulusOf r) (now a2) ⌝ }
+    requires source { ⌜ ItemsBelow (modulusOf r) 64 (now a0) (now a1) (now a2) ⌝ }
     ensures is { λ _. ⌜ Laned (widthOf r) l (now (a0 .entry)) (now (a1 .entry)) (now (a2 .entry)) (atEntry m0 m1 m2) (atEntry c0 c1 c2)
         (now (z0 .exit)) (now (z1 .exit)) (now (z2 .exit)) (atExit c0 c1 c2) ⌝ }
     ensures long { λ _. ⌜ (length (now (z0 .exit)) ≡ 64) × (length (now (z1 .exit)) ≡ 64) × (length (now (z2 .exit)) ≡ 64) ⌝ }

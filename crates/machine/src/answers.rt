@@ -1,6 +1,6 @@
 // What an order answers.
 
-// 01, "Why an order is refused".
+// 01, "Why an order is refused"; the last is 02's, of a batch.
 pub enum Refusal {
     Unsound,
     NoRegister,
@@ -13,6 +13,7 @@ pub enum Refusal {
     TapeShort,
     ChannelShort,
     BadItem,
+    NotSixtyFour,
 }
 
 // Done with the value opened, or 0, and the gates spent; or refused.

@@ -8,7 +8,7 @@ use borrow.Author.Tests.{le-ltb, lt-ltb, ltb-false, ltb-true}
 use lib.Dec.{eqb, ltb}
 use Rattle.machine.specs.Checks.{Check, check, firstMet}
 use Rattle.machine.specs.declared.answers.Refusal.{Refusal}
-use Rattle.machine.specs.declared.answers.Refusal.the-variants.{BadItem, BadLength, ChannelShort, EmptySource, NoRegister, NoRing, OutOfRange, RingsDiffer, TapeShort, Unsound, WrongKind}
+use Rattle.machine.specs.declared.answers.Refusal.the-variants.{BadItem, BadLength, ChannelShort, EmptySource, NoRegister, NoRing, NotSixtyFour, OutOfRange, RingsDiffer, TapeShort, Unsound, WrongKind}
 use Rattle.order.specs.Answers.{firstOf, numberOf}
 
 pub one-check : {v : ℕ} (n : ℕ) {b t : Bool} → v ≡ cond b n 0 → b ≡ t → v ≡ firstMet (check t n ∷ [])
@@ -44,6 +44,7 @@ numbered BadLength = refl
 numbered TapeShort = refl
 numbered ChannelShort = refl
 numbered BadItem = refl
+numbered NotSixtyFour = refl
 
 pub first-refusal : (w : Refusal) (n : ℕ) → numberOf w ≡ firstOf (numberOf w) n
 first-refusal w n = rw (numbered w)

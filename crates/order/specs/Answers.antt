@@ -8,7 +8,7 @@ use Rattle.machine.specs.Step as defined
 use Rattle.machine.specs.declared.answers.Answer.{Answer}
 use Rattle.machine.specs.declared.answers.Answer.the-variants.{Done, Refused}
 use Rattle.machine.specs.declared.answers.Refusal.{Refusal}
-use Rattle.machine.specs.declared.answers.Refusal.the-variants.{BadItem, BadLength, ChannelShort, EmptySource, NoRegister, NoRing, OutOfRange, RingsDiffer, TapeShort, Unsound, WrongKind}
+use Rattle.machine.specs.declared.answers.Refusal.the-variants.{BadItem, BadLength, ChannelShort, EmptySource, NoRegister, NoRing, NotSixtyFour, OutOfRange, RingsDiffer, TapeShort, Unsound, WrongKind}
 use Rattle.order.specs.declared.answers.Outcome.{Outcome}
 use Rattle.order.specs.declared.answers.Verdict.{Verdict}
 use Rattle.order.specs.declared.answers.Verdict.the-variants.{Because, Fine}
@@ -26,6 +26,7 @@ numberOf BadLength = 8
 numberOf TapeShort = 9
 numberOf ChannelShort = 11
 numberOf BadItem = 10
+numberOf NotSixtyFour = 23
 
 -- 0 where nothing is refused
 abbrev pub refusalOf : Answer → ℕ

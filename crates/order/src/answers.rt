@@ -18,7 +18,7 @@ pub struct Outcome {
     pub answer: Answer,
 }
 
-// 01's number of a refusal.
+// The number of a refusal.
 fn number(w: Refusal) -> u64
     ensures { λ r. ⌜ r ≡ numberOf w ⌝ }
 {
@@ -34,6 +34,7 @@ fn number(w: Refusal) -> u64
         Refusal::TapeShort => 9,
         Refusal::ChannelShort => 11,
         Refusal::BadItem => 10,
+        Refusal::NotSixtyFour => 23,
     }
 }
 

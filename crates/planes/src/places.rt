@@ -3,9 +3,9 @@ ghost use mathlib.Core.Path.{_≡_};
 ghost use Prim.Native.Nat.{_+_, _<_};
 ghost use lib.ListN.{length};
 ghost use Rattle.ring.specs.Rings.{modulusOf, widthOf};
-ghost use Rattle.gate.specs.Lent.{atEntry, atExit};
+ghost use Rattle.circuit.specs.Lent.{ItemsBelow};
 ghost use Rattle.circuit.specs.Sharings.{fourTimes, itemsAt};
-ghost use Rattle.planes.specs.Planes.{AllBelow, Loaded, NoPlanes, planesAt, withPlanes};
+ghost use Rattle.planes.specs.Planes.{Loaded, NoPlanes, planesAt, withPlanes};
 use crate::rows::planes_of;
 use crate::rows::rows_of;
 use gate::Sharing;
@@ -38,9 +38,7 @@ pub fn store_planes(q: &mut [u64], j: usize, w: Sharing)
 pub fn load(r: Ring, a0: &[u64], a1: &[u64], a2: &[u64], x: &mut [u64])
     requires lengths { ⌜ (length (now a0) ≡ 64) × (length (now a1) ≡ 64) × (length (now a2) ≡ 64) ⌝ }
     requires room { ⌜ length (now x) ≡ 192 ⌝ }
-    requires first { ⌜ AllBelow (modulusOf r) (now a0) ⌝ }
-    requires second { ⌜ AllBelow (modulusOf r) (now a1) ⌝ }
-    requires third { ⌜ AllBelow (modulusOf r) (now a2) ⌝ }
+    requires source { ⌜ ItemsBelow (modulusOf r) 64 (now a0) (now a1) (now a2) ⌝ }
     ensures { λ _. ⌜ Loaded (λ k. fourTimes (modulusOf r) (itemsAt k (now (a0 .entry)) (now (a1 .entry)) (now (a2 .entry)))) (now (x .exit)) ⌝ }
 {
     planes_of(r, a0, &mut x[0..64]);

@@ -9,6 +9,17 @@ use Rattle.planes.proofs.PlaceLaw.{loaded}
 use Rattle.planes.proofs.places.load.Statement.{statement}
 use Rattle.planes.proofs.places.load.Tie as tie
 
+at-0 : tie.Need-planes-of-requires
+at-0 c κs =
+    let start = c .before .before .before .before .before in
+    (start .pre .0 .0, (search needs, record { at = start .pre .1 .1 .zero }))
+
+at-1 : tie.Need-planes-of-requires-2
+at-1 c κs = let start = c .before .before .before .before .before .before .before .before .before in (start .pre .0 .1, (search needs, record { at = start .pre .1 .1 .one }))
+
+at-2 : tie.Need-planes-of-requires-3
+at-2 c κs = let start = c .before .before .before .before .before .before .before .before .before .before .before .before .before in (start .pre .0 .2, (search needs, record { at = start .pre .1 .1 .two }))
+
 returns : tie.Need-returns
 returns c =
     let third = c .before .before in
@@ -37,6 +48,5 @@ returns c =
 pub load-spec : {M : Type 1} → statement M
 load-spec =
     tie.close
-    (tie.spec (λ c. search needs) (λ c. search needs) (λ c. search needs) (λ c κs. search needs)
-    (λ c. search needs) (λ c. search needs) (λ c. search needs) (λ c κs. search needs)
-    (λ c. search needs) (λ c. search needs) (λ c. search needs) (λ c κs. search needs) (λ c. search needs) returns)
+    (tie.spec (λ c. search needs) (λ c. search needs) (λ c. search needs) at-0 (λ c. search needs) (λ c. search needs) (λ c. search needs) at-1
+    (λ c. search needs) (λ c. search needs) (λ c. search needs) at-2 (λ c. search needs) returns)
