@@ -46,7 +46,20 @@ fn run(
         ≡ performed (widthOf r) l (atEntry a0 a1 a2) (atEntry m0 m1 m2) (atEntry c0 c1 c2) ⌝ }
 {
     decompose_lanes(
-        r, l as usize, a0, a1, a2, m0, m1, m2, c0, c1, c2, z0, z1, z2,
+        r,
+        l as usize,
+        a0,
+        a1,
+        a2,
+        m0,
+        m1,
+        m2,
+        c0,
+        c1,
+        c2,
+        z0,
+        z1,
+        z2,
     );
     Answer::Done {
         value: 0,

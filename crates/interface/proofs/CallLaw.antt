@@ -2,7 +2,7 @@
 use Prim.Native.Nat.{ℕ}
 use mathlib.Core.Bool.{Bool, cond, false, not, true}
 use mathlib.Core.List.{List, [], _∷_}
-use mathlib.Core.Path.{_≡_, ap, refl, _∙_}
+use mathlib.Core.Path.{_≡_, ap, ap₂, refl, _∙_}
 use native.Mathlib.Omega.{arith}
 use borrow.Author.Tests.{eq-eqb, ne-eqb}
 use lib.ListN.{drop-of-length-le, length, set}
@@ -23,7 +23,9 @@ use Rattle.step.specs.Words.{Reports}
 use Rattle.tape.specs.Tapes.{countOf, outcome, prepared}
 use Rattle.tape.specs.Tapes as tapes
 use Rattle.tape.specs.declared.tapes.Prepared.{Prepared}
-use Rattle.interface.specs.Calls.{Left, left, leftBy, malformed, prepareWords, stepRead, stepWords, tape, tapeBy}
+use Rattle.batch.specs.Batch as batches
+use Rattle.batch.specs.Calls.{answered}
+use Rattle.interface.specs.Calls.{Left, batchWords, decomposed, decomposedBy, left, leftBy, malformed, prepareWords, stepRead, stepWords, tape, tapeBy}
 
 cond-same : {A : Type 0} (b : Bool) (u : A) → cond b u u ≡ u
 cond-same true u = refl
@@ -77,3 +79,16 @@ pub tape-written : (code : ℕ) (raw run a : List ℕ) {n k : ℕ} {filled : Lis
     → tape n filled (set (set a 0 n) 1 k) ≡ prepareWords code raw run a
 unfolding prepareWords
 tape-written code raw run a p h e en ek = rw (eq-eqb (length a) 2 h, two-written a _ _ h, en, ek) (ap tapeBy e)
+
+-- a batch: an answer of another length than 3, and what is left otherwise
+module _ (e l : ℕ) (x T c z : Place → List ℕ) (a : List ℕ) where
+  pub batch-refused : (length a ≡ 3 → ⊥) → decomposed malformed c z a ≡ batchWords e l x T c z a
+  unfolding batchWords
+  batch-refused h = rw (ne-eqb (length a) 3 h)
+
+  pub batch-left : (given : Answer) {n : ℕ} {c′ z′ : Place → List ℕ} {a′ : List ℕ} → length a ≡ 3
+      → answered given c′ z′ ≡ batches.batch e l x T c z → n ≡ refusalOf given → a′ ≡ answerWords given
+      → decomposed n c′ z′ a′ ≡ batchWords e l x T c z a
+  unfolding batchWords
+  batch-left given {c′ = c′} {z′ = z′} long is number words =
+      ap₂ (λ (k : ℕ) (w : List ℕ). decomposed k c′ z′ w) number words ∙ ap decomposedBy is ∙ rw (eq-eqb (length a) 3 long)

@@ -10,9 +10,10 @@ use Rattle.machine.specs.Step.{Outcome, step}
 use Rattle.machine.specs.declared.orders.OfKind.{OfKind}
 use Rattle.machine.specs.declared.orders.OfKind.the-variants.{Named, NoOrder}
 use Rattle.tape.specs.Tapes as prepared
+use Rattle.batch.specs.Batch as batches
 use Rattle.layout.specs.Layout.{MachineFound, found, machineOf, machineWords, none, orderOf}
 
--- the number returned for words in no layout: 02's refusals 14 to 23 stay free
+-- the number returned for words in no layout: 02's refusals 14 to 22 stay free
 abbrev pub malformed : ℕ
 malformed = 100
 
@@ -57,3 +58,20 @@ tapeBy o = tape (o .refusal) (o .run) (o .refusal ∷ o .count ∷ [])
 -- malformed and nothing changed where the answer has not two words, else 01's preparation
 unfoldable pub prepareWords : (code : ℕ) (raw run a : List ℕ) → Tape
 prepareWords code raw run a = cond (eqb (length a) 2) (tapeBy (prepared.prepared code raw run)) (tape malformed run a)
+
+-- the number returned, and the words of channels, results and answer
+pub record Decomposed : Type 0 where
+  pub returned : ℕ
+  pub channels : Place → List ℕ
+  pub results : Place → List ℕ
+  pub answer : List ℕ
+
+abbrev pub decomposed : ℕ → (c z : Place → List ℕ) → (a : List ℕ) → Decomposed
+decomposed n c z a = record { returned = n; channels = c; results = z; answer = a }
+
+abbrev pub decomposedBy : batches.Outcome → Decomposed
+decomposedBy o = decomposed (o .refusal) (o .channels) (o .results) (o .refusal ∷ o .value ∷ o .gates ∷ [])
+
+-- malformed and nothing changed where the answer has not three words, else 02's batch
+unfoldable pub batchWords : (e l : ℕ) → (x T c z : Place → List ℕ) → (a : List ℕ) → Decomposed
+batchWords e l x T c z a = cond (eqb (length a) 3) (decomposedBy (batches.batch e l x T c z)) (decomposed malformed c z a)
