@@ -1,12 +1,13 @@
 /*
- * The three-unit survey set: one order on words, and one tape.
+ * The three-unit survey set: one order on words, one tape, and 64 decompositions at once.
  *
- * `rt staticlib interface` writes target/staticlib/libinterface.a (x86-64 Linux). "01" is the scope paper;
- * crates/layout/specs/Layout.antt says what each word is, crates/interface/specs/Calls.antt what a call leaves.
+ * `rt staticlib interface` writes target/staticlib/libinterface.a (x86-64 Linux). "01" is the scope paper,
+ * "02" its change requests; crates/layout/specs/Layout.antt says what each word is, crates/interface/specs/Calls.antt
+ * what a call leaves.
  *
  * Each run of words is a pointer and its length in words. A pointer is never null, not even for length 0, and is
  * aligned for uint64_t. A run that a call writes overlaps no other run of that call.
- * Neither function keeps a pointer, allocates, or can fail in any other way than by the number that it returns.
+ * No function keeps a pointer, allocates, or can fail in any other way than by the number that it returns.
  */
 #ifndef SURVEY_H
 #define SURVEY_H
@@ -86,8 +87,11 @@ enum {
     SURVEY_PREPARED_WORDS = 2
 };
 
+/* The length of each of survey_batch's runs of sub-shares and of results: figure k stands at place k. */
+enum { SURVEY_BATCH_FIGURES = 64 };
+
 /*
- * 01's refusals, and one of this interface: 100, so that 02's numbers 14 to 23 stay free.
+ * 01's refusals, 02's 23, and one of this interface: 100, so that 02's numbers 14 to 22 stay free.
  * A refusal changes no record, position, channel or run.
  */
 enum {
@@ -101,9 +105,10 @@ enum {
     SURVEY_NUMBER_OUT_OF_RANGE = 7,
     SURVEY_BAD_LENGTH = 8,         /* unequal lengths, or more than 1,000,000 words */
     SURVEY_TAPE_TOO_SHORT = 9,
-    SURVEY_ITEM_OUT_OF_RANGE = 10,
+    SURVEY_ITEM_OUT_OF_RANGE = 10, /* in survey_batch a sub-share */
     SURVEY_CHANNEL_TOO_SHORT = 11,
     SURVEY_RAW_WORDS_RAN_OUT = 12, /* survey_prepare only */
+    SURVEY_NOT_64 = 23,            /* survey_batch only: sub-shares or results not in runs of 64 words */
     SURVEY_MALFORMED = 100         /* words in no layout: the answer is left as it was, too */
 };
 
@@ -131,6 +136,30 @@ uint64_t survey_prepare(uint64_t code,
                         uint64_t *run, size_t run_length,
                         uint64_t *answer, size_t answer_length);
 
+/*
+ * Decomposes 64 figures of one ring, width 31 or 61, into so many bits each, as 64 orders of kind 5 would. Figure k's
+ * sub-shares stand at place k of a0 to a2; three words below 2^bits, as the order would leave them in a bits register, go
+ * to place k of z0 to z2. Mask tapes m0 to m2 and channels c0 to c2 are used from their start, one word a gate, of which
+ * bit k is figure k's: any word serves as an item. There is no record. The answer is as survey_step's, with value 0 and
+ * 3 * bits + 1 gates; the words behind those on a channel stay as they are.
+ * Checked in this order: 23; 5, width 13 too; 7, bits not from 1 to width - 2; 10, a sub-share of 2^width - 1 or more;
+ * 8; 9; 11. Returns the refusal or 0, as above; SURVEY_MALFORMED where the answer has not three words.
+ */
+uint64_t survey_batch(uint64_t width, uint64_t bits,
+                      const uint64_t *a0, size_t a0_length,
+                      const uint64_t *a1, size_t a1_length,
+                      const uint64_t *a2, size_t a2_length,
+                      const uint64_t *m0, size_t m0_length,
+                      const uint64_t *m1, size_t m1_length,
+                      const uint64_t *m2, size_t m2_length,
+                      uint64_t *c0, size_t c0_length,
+                      uint64_t *c1, size_t c1_length,
+                      uint64_t *c2, size_t c2_length,
+                      uint64_t *z0, size_t z0_length,
+                      uint64_t *z1, size_t z1_length,
+                      uint64_t *z2, size_t z2_length,
+                      uint64_t *answer, size_t answer_length);
+
 /* What a refusal says. */
 static inline const char *survey_refusal_name(uint64_t refusal)
 {
@@ -145,9 +174,10 @@ static inline const char *survey_refusal_name(uint64_t refusal)
     case SURVEY_NUMBER_OUT_OF_RANGE: return "number out of range";
     case SURVEY_BAD_LENGTH: return "lengths unequal or too large";
     case SURVEY_TAPE_TOO_SHORT: return "tape too short";
-    case SURVEY_ITEM_OUT_OF_RANGE: return "tape item out of range";
+    case SURVEY_ITEM_OUT_OF_RANGE: return "tape item or sub-share out of range";
     case SURVEY_CHANNEL_TOO_SHORT: return "channel too short";
     case SURVEY_RAW_WORDS_RAN_OUT: return "raw words ran out";
+    case SURVEY_NOT_64: return "not 64 sub-shares or results";
     case SURVEY_MALFORMED: return "words in no layout";
     default: return "no such refusal";
     }

@@ -94,3 +94,27 @@ fn tape_answers() {
     assert_eq!(prepare_words(13, &[1, 2], &mut run, &mut [0; 3]), MALFORMED);
     assert_eq!(run, [0, 5]);
 }
+
+/// Whether include/survey.h gives a name this number.
+fn is_named(name: &str, number: u64) -> bool {
+    let header = include_str!("../../include/survey.h");
+    let words: Vec<&str> = header.split([' ', ',', '\n']).collect();
+    let number = number.to_string();
+    words.windows(3).any(|found| found == [name, "=", &number])
+}
+
+#[test]
+fn the_header_has_the_same_numbers() {
+    for (name, number) in [
+        ("SURVEY_REGISTER_WORDS", REGISTER_WORDS),
+        ("SURVEY_RECORD_WORDS", RECORD_WORDS),
+        ("SURVEY_ORDER_WORDS", ORDER_WORDS),
+        ("SURVEY_ANSWER_WORDS", ANSWER_WORDS),
+        ("SURVEY_PREPARED_WORDS", COUNT_WORDS),
+        ("SURVEY_BATCH_FIGURES", 64),
+        ("SURVEY_NOT_64", 23),
+    ] {
+        assert!(is_named(name, number as u64), "{name}");
+    }
+    assert!(is_named("SURVEY_MALFORMED", MALFORMED));
+}

@@ -12,7 +12,7 @@ pub const ORDER_WORDS: usize = 4;
 pub const ANSWER_WORDS: usize = 3;
 pub const COUNT_WORDS: usize = 2;
 
-/// Words that are not in the layout: 02's refusals 14 to 23 stay free.
+/// Words that are not in the layout: 02's refusals 14 to 22 stay free.
 pub const MALFORMED: Refusal = 100;
 
 fn read_register(words: &[u64]) -> Option<Register> {
