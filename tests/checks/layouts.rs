@@ -2,6 +2,7 @@
 
 use jobs::draw::Draw;
 use jobs::records;
+use reference::batch::{FIGURES, NOT_64};
 use reference::layout::*;
 use reference::machine::Lent;
 use reference::record::Record;
@@ -111,10 +112,10 @@ fn the_header_has_the_same_numbers() {
         ("SURVEY_ORDER_WORDS", ORDER_WORDS),
         ("SURVEY_ANSWER_WORDS", ANSWER_WORDS),
         ("SURVEY_PREPARED_WORDS", COUNT_WORDS),
-        ("SURVEY_BATCH_FIGURES", 64),
-        ("SURVEY_NOT_64", 23),
+        ("SURVEY_BATCH_FIGURES", FIGURES),
     ] {
         assert!(is_named(name, number as u64), "{name}");
     }
+    assert!(is_named("SURVEY_NOT_64", NOT_64));
     assert!(is_named("SURVEY_MALFORMED", MALFORMED));
 }

@@ -33,7 +33,7 @@ pub enum Work {
     Open { register: Register },
 }
 
-fn refuse_if(condition: bool, refusal: Refusal) -> Result<(), Refusal> {
+pub(crate) fn refuse_if(condition: bool, refusal: Refusal) -> Result<(), Refusal> {
     if condition {
         Err(refusal)
     } else {
@@ -144,7 +144,7 @@ fn left(length: usize, position: u64) -> u64 {
 }
 
 /// 8 for three runs: unequal length, or over 1,000,000 words.
-fn check_lengths(lengths: [usize; 3]) -> Result<(), Refusal> {
+pub(crate) fn check_lengths(lengths: [usize; 3]) -> Result<(), Refusal> {
     let unequal = lengths[0] != lengths[1] || lengths[1] != lengths[2];
     refuse_if(unequal || lengths.iter().any(|&n| n as u64 > LIMIT), 8)
 }
