@@ -1,7 +1,8 @@
 //! Figures of 01, by the library alone.
 
-use crate::interface;
+use crate::interface::{self, survey::BATCH_FIGURES};
 use jobs::tally::Tally;
+use reference::batch::Batch;
 use reference::layout::{ANSWER_WORDS, RECORD_WORDS};
 use reference::machine::Lent;
 
@@ -79,7 +80,59 @@ fn counts(tally: &mut Tally) {
     }
 }
 
+/// 64 figures, the one at place k given and the others 1, at so many bits and with so many items a tape; the answer, and what
+/// the given one opens to.
+fn batched(width: u64, figure: [u64; 3], k: usize, bits: u64, items: usize) -> ([u64; 3], u64) {
+    let runs = [0; 3].map(|_| vec![1; BATCH_FIGURES]);
+    let (mut shares, mut results) = (runs.clone(), runs);
+    for (run, share) in shares.iter_mut().zip(figure) {
+        run[k] = share;
+    }
+    let masks = [3, 5, 6].map(|word| vec![word << k; items]);
+    let mut channels = masks.clone();
+    let mut batch = Batch {
+        width,
+        bits,
+        shares: shares.each_ref().map(Vec::as_slice),
+        masks: masks.each_ref().map(Vec::as_slice),
+        channels: channels.each_mut().map(Vec::as_mut_slice),
+        results: results.each_mut().map(Vec::as_mut_slice),
+    };
+    let mut words = [77; ANSWER_WORDS];
+    interface::batch(&mut batch, &mut words);
+    (words, results.iter().fold(0, |all, run| all ^ run[k]))
+}
+
+/// The decompositions of `values` at every place of a batch: in a ring of width e 8000 is p - 191, and 2048 is 2^(e-2).
+fn batches(tally: &mut Tally) {
+    for (width, gates) in [(31, 88), (61, 178)] {
+        let (p, quarter) = ((1 << width) - 1, 1 << (width - 2));
+        let figures = [
+            ([1, 2, 2], 5),
+            ([p - 191, 100, 96], 5),
+            ([p - 191, p - 191, 387], 5),
+            ([p - 1, 1, 0], 0),
+            ([quarter - 1, 0, 0], quarter - 1),
+            ([quarter, 0, 0], 1),
+            ([quarter - 1, 1, 0], 0),
+        ];
+        for (shares, value) in figures {
+            for k in 0..BATCH_FIGURES {
+                let found = batched(width, shares, k, width - 2, gates);
+                tally.case(found == ([0, 0, gates as u64], value), || {
+                    format!("{shares:?} at place {k} in ring {width}: {found:?}")
+                });
+            }
+        }
+        let (found, _) = batched(width, [1; 3], 0, width - 2, gates - 1);
+        tally.case(found == [9, 0, 0], || {
+            format!("a batch lent {} items: {found:?}", gates - 1)
+        });
+    }
+}
+
 pub fn run(tally: &mut Tally) {
     values(tally);
     counts(tally);
+    batches(tally);
 }

@@ -2,19 +2,25 @@
 //! reference: library [CASES [SEED]]
 
 mod arena;
+mod batch_runs;
+mod batches;
 mod figures;
 mod interface;
 mod steps;
 mod tapes;
 
 use arena::Arena;
+use batch_runs::Runs;
 use interface::survey::MALFORMED;
 use jobs::draw::Draw;
 use jobs::tally::{argument, Tally};
+use reference::batch::{batch_words, NOT_64};
 use reference::layout::{prepare_words, step_words};
 use reference::machine::Lent;
 
 const CASES: u64 = 200_000;
+/// Calls of `survey_batch` for each ring and bit count; half of them are spoilt.
+const BATCHES: u64 = 130;
 /// After so many cases all lent words are compared, not just those about
 /// the positions.
 const FULL: u64 = 5_000;
@@ -134,15 +140,73 @@ fn run_tapes(cases: u64, seed: u64, tally: &mut Tally) {
     }
 }
 
+/// One call by the reference and by the library.
+fn run_batch(case: &batches::Case, ours: &mut Runs, theirs: &mut Runs, tally: &mut Tally) {
+    let expected = case.run(batch_words, ours);
+    let found = case.run(interface::batch, theirs);
+    let words = ours.differences(theirs, &case.lengths);
+    tally.case(expected == found && words.is_empty(), || {
+        let shown = words[..words.len().min(12)].join("; ");
+        let text = case.text();
+        format!("batch: expected {expected}, returned {found}; {shown}; {text}")
+    });
+    if !words.is_empty() {
+        theirs.clone_from(ours);
+    }
+    tally.meet("batch", expected);
+    if expected == 0 {
+        tally.meet(accepted_in(case.width), case.bits);
+    }
+}
+
+/// What is counted of the accepted calls in a ring.
+fn accepted_in(width: u64) -> &'static str {
+    match width {
+        31 => "bits of an accepted batch in ring 31",
+        _ => "bits of an accepted batch in ring 61",
+    }
+}
+
+fn run_batches(seed: u64, tally: &mut Tally) {
+    let mut draw = Draw::new(seed);
+    let mut ours = Runs::new(&mut draw);
+    let mut theirs = ours.clone();
+    let sizes = batches::sizes();
+    for turn in 1..=BATCHES {
+        for &(ring, bits) in &sizes {
+            if tally.failed() > ENOUGH {
+                println!("stopped at batch {turn} of {bits} bits");
+                return;
+            }
+            let case = batches::Case::new(&mut draw, ring, bits);
+            run_batch(&case, &mut ours, &mut theirs, tally);
+        }
+        tally.case(ours == theirs, || {
+            format!("words far from a call's differ by batch {turn} of each size")
+        });
+    }
+    for (ring, bits) in sizes {
+        let times = tally.met(accepted_in(ring.width()), bits);
+        tally.case(times >= BATCHES / 4, || {
+            format!(
+                "{times} accepted batches of {bits} bits, ring {}",
+                ring.width()
+            )
+        });
+    }
+}
+
 fn main() {
     let (cases, seed) = (argument(1, CASES), argument(2, 1));
     let mut tally = Tally::default();
     figures::run(&mut tally);
     run_steps(cases, seed, &mut tally);
     run_tapes(cases, seed, &mut tally);
+    run_batches(seed, &mut tally);
     let all: Vec<u64> = (0..=11).collect();
     tally.claim("step", &[&all[..], &[MALFORMED]].concat());
     tally.claim("accepted kind", &all[1..=9]);
     tally.claim("tape", &[0, 5, 12, MALFORMED]);
+    tally.claim("batch", &[0, 5, 7, 8, 9, 10, 11, NOT_64, MALFORMED]);
     tally.finish();
 }
