@@ -8,7 +8,7 @@ mod format;
 #[path = "../../include/survey.rs"]
 mod survey;
 
-use format::{Places, PREPARE, ROOM, RUNS, STEP, WRITTEN};
+use format::{Places, BATCH, PREPARE, ROOM, RUNS, STEP, WRITTEN};
 use std::arch::asm;
 
 type Runs = [Vec<u64>; RUNS];
@@ -53,7 +53,7 @@ fn planted(share: u64) {
 #[no_mangle]
 #[inline(never)]
 fn traced_step(lent: Lent) -> u64 {
-    let [order, record, m0, m1, m2, dealer, c0, c1, c2, answer] = lent;
+    let [order, record, m0, m1, m2, dealer, c0, c1, c2, answer, ..] = lent;
     mark();
     planted(record[2]);
     let returned = survey::step(order, record, [m0, m1, m2], dealer, [c0, c1, c2], answer);
@@ -64,9 +64,22 @@ fn traced_step(lent: Lent) -> u64 {
 #[no_mangle]
 #[inline(never)]
 fn traced_prepare(code: u64, lent: Lent) -> u64 {
-    let [_, _, _, _, _, raw, run, _, _, answer] = lent;
+    let [_, _, _, _, _, raw, run, _, _, answer, ..] = lent;
     mark();
     let returned = survey::prepare(code, raw, run, answer);
+    mark();
+    returned
+}
+
+#[no_mangle]
+#[inline(never)]
+fn traced_batch(width: u64, bits: u64, lent: Lent) -> u64 {
+    let [_, _, m0, m1, m2, _, c0, c1, c2, answer, a0, a1, a2, z0, z1, z2] = lent;
+    let (shares, masks) = ([&*a0, a1, a2], [&*m0, m1, m2]);
+    mark();
+    planted(shares[0].first().copied().unwrap_or(0));
+    let (channels, results) = ([c0, c1, c2], [z0, z1, z2]);
+    let returned = survey::batch(width, bits, shares, masks, channels, results, answer);
     mark();
     returned
 }
@@ -106,21 +119,22 @@ fn given<'a>(run: &'a mut [u64], place: &[u64; 3]) -> &'a mut [u64] {
     &mut run[place[1] as usize..][..place[2] as usize]
 }
 
-fn call([call, code]: [u64; 2], runs: &mut Runs, places: &Places) -> u64 {
+fn call([call, first, second]: [u64; 3], runs: &mut Runs, places: &Places) -> u64 {
     let mut places = places.iter();
     let lent = runs
         .each_mut()
         .map(|run| &mut run[..places.next().unwrap()[0] as usize]);
     match call {
         STEP => traced_step(lent),
-        PREPARE => traced_prepare(code, lent),
+        PREPARE => traced_prepare(first, lent),
+        BATCH => traced_batch(first, second, lent),
         _ => panic!("no call {call}"),
     }
 }
 
 /// One round; false where standard input ends.
 fn round(runs: &mut Runs) -> bool {
-    let (mut head, mut places) = ([0; 2], Places::default());
+    let (mut head, mut places) = ([0; 3], Places::default());
     if !fill(&mut head) {
         return false;
     }

@@ -1,9 +1,10 @@
 //! Cases: a call with all that is public about it, and which of its words are secret.
 
-use crate::format::{PREPARE, RUNS, STEP};
+use crate::format::{BATCH, PREPARE, RUNS, STEP};
 use crate::words::Word::{self, Any, Below, Public};
 use jobs::draw::Draw;
 use jobs::orders::{needs, Needs};
+use reference::batch::FIGURES;
 use reference::layout::{read_order, read_record, ANSWER_WORDS};
 use reference::record::LIMIT;
 use reference::ring::Ring;
@@ -15,6 +16,8 @@ pub const MASKS: Range<usize> = 2..5;
 pub const DEALER: usize = 5;
 pub const CHANNELS: Range<usize> = 6..9;
 pub const ANSWER: usize = 9;
+pub const SHARES: Range<usize> = 10..13;
+pub const RESULTS: Range<usize> = 13..16;
 
 /// Words given in front of a position and behind what the order takes.
 const MARGIN: usize = 4;
@@ -37,9 +40,9 @@ impl Run {
 #[derive(Clone)]
 pub struct Case {
     pub name: String,
-    /// STEP, or PREPARE with its code.
+    /// STEP, PREPARE with its code, or BATCH with its width and bits.
     pub call: u64,
-    pub code: u64,
+    pub numbers: [u64; 2],
     pub runs: [Run; RUNS],
     /// The refusal that it is meant to meet, or 0.
     pub meant: u64,
@@ -111,15 +114,18 @@ impl Case {
         let (channels_at, channels) = stretch(at, 25, &channels);
         let (dealer_at, dealer) = stretch(at, 9, &dealer);
         record.extend([masks_at, channels_at, dealer_at]);
-        let [c0, c1, c2] = [(); 3].map(|_| channels.clone());
-        let [m0, m1, m2] = [(); 3].map(|_| masks.clone());
-        let (order, record) = (Run::whole(order.to_vec()), Run::whole(record));
-        let answer = Run::whole(vec![Public(77); ANSWER_WORDS]);
+        let mut runs = [(); RUNS].map(|_| Run::whole(vec![]));
+        runs[ORDER] = Run::whole(order.to_vec());
+        runs[RECORD] = Run::whole(record);
+        runs[MASKS].fill(masks);
+        runs[DEALER] = dealer;
+        runs[CHANNELS].fill(channels);
+        runs[ANSWER] = Run::whole(vec![Public(77); ANSWER_WORDS]);
         Case {
             name,
             call: STEP,
-            code: 0,
-            runs: [order, record, m0, m1, m2, dealer, c0, c1, c2, answer],
+            numbers: [0; 2],
+            runs,
             meant: 0,
         }
     }
@@ -133,13 +139,35 @@ impl Case {
         Case {
             name,
             call: PREPARE,
-            code,
+            numbers: [code, 0],
             runs,
             meant,
         }
     }
 
-    /// This order so changed that it is refused. No item is taken then, so any word may stand there.
+    /// A batch, its mask tapes and its channels so long.
+    pub fn batch(name: String, ring: Ring, bits: u64, masks: usize, channels: usize) -> Case {
+        let words = |lent: usize| Run {
+            lent,
+            from: 0,
+            words: vec![Any; lent + MARGIN],
+        };
+        let mut runs = [(); RUNS].map(|_| Run::whole(vec![]));
+        runs[MASKS].fill(words(masks));
+        runs[CHANNELS].fill(words(channels));
+        runs[ANSWER] = Run::whole(vec![Public(77); ANSWER_WORDS]);
+        runs[SHARES].fill(Run::whole(vec![Below(ring.modulus()); FIGURES]));
+        runs[RESULTS].fill(Run::whole(vec![Any; FIGURES]));
+        Case {
+            name,
+            call: BATCH,
+            numbers: [ring.width(), bits],
+            runs,
+            meant: 0,
+        }
+    }
+
+    /// This call so changed that it is refused. No item is taken then, so any word may stand there.
     pub fn refused(&self, by: u64, how: &str, change: impl FnOnce(&mut Case)) -> Case {
         let mut case = self.clone();
         for run in &mut case.runs[MASKS.start..=DEALER] {

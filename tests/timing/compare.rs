@@ -74,7 +74,7 @@ impl Comparison {
         if draw > 0 && trace == self.first {
             return;
         }
-        let own = ["traced_step", "traced_prepare"];
+        let own = ["traced_step", "traced_prepare", "traced_batch"];
         let below = lines(trace)
             .filter_map(instruction)
             .filter(|&i| !own.contains(&symbols.name(i)));

@@ -29,14 +29,14 @@ pub fn divisions(file: &Path) -> Vec<String> {
     found
 }
 
-/// What is not in an archive but left to others, of whose code nothing is known; the library's two functions must be there.
+/// What is not in an archive but left to others, of whose code nothing is known; the library's three functions must be there.
 pub fn undefined(archive: &Path) -> Vec<String> {
     let names = |which: &str| -> BTreeSet<String> {
         let text = output("nm", &["-j", which], archive);
         text.lines().map(str::to_string).collect()
     };
     let (defined, used) = (names("--defined-only"), names("--undefined-only"));
-    let called = ["survey_step", "survey_prepare"].map(str::to_string);
+    let called = ["survey_step", "survey_prepare", "survey_batch"].map(str::to_string);
     let missing = used
         .iter()
         .chain(&called)

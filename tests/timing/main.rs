@@ -2,10 +2,11 @@
 //! at the same addresses, and it divides nothing.
 //!
 //! timing check ARCHIVE   checks
-//! timing table           prints how many instructions each order takes
+//! timing table           prints how many instructions each order takes, and a batch
 //!
 //! The callers stand beside this program: caller, and with a planted fault caller_branch, caller_index, caller_division.
 
+mod batches;
 mod cases;
 mod compare;
 mod divisions;
@@ -45,7 +46,13 @@ fn caller(suffix: &str) -> PathBuf {
 }
 
 fn check_traces(tally: &mut Tally) {
-    let cases = [orders::accepted(), refusals::refused(), tapes::prepared()].concat();
+    let cases = [
+        orders::accepted(),
+        refusals::refused(),
+        tapes::prepared(),
+        batches::batches(),
+    ]
+    .concat();
     let findings = trace_cases(&caller(""), &cases);
     let mut failed = Vec::new();
     for finding in &findings.list {
@@ -63,7 +70,8 @@ fn check_traces(tally: &mut Tally) {
 
 /// A fault on a sub-share must show in the trace, and be found where it was planted.
 fn check_planted(fault: &str, tally: &mut Tally) {
-    let cases = [2, 4].map(|kind| usual(kind, Ring::all()[1], At::Start));
+    let [add, multiply] = [2, 4].map(|kind| usual(kind, Ring::all()[1], At::Start));
+    let cases = [add, multiply, batches::usual(Ring::all()[1])];
     let findings = trace_cases(&caller(&format!("_{fault}")), &cases);
     let planted = |finding: &Finding| {
         finding
@@ -97,13 +105,17 @@ fn cell(finding: &Finding) -> String {
 
 fn table() {
     let row = |kind: u64| Ring::all().map(|ring| usual(kind, ring, At::Start));
-    let cases: Vec<Case> = (1..=9).flat_map(row).collect();
+    let orders = (1..=9).flat_map(row);
+    let cases: Vec<Case> = orders.chain(batches::rings().map(batches::usual)).collect();
     let findings = trace_cases(&caller(""), &cases);
     println!("| order | ring 13 | ring 31 | ring 61 |\n|---|---|---|---|");
     for (row, findings) in ROWS.iter().zip(findings.list.chunks(3)) {
         let cells: Vec<String> = findings.iter().map(cell).collect();
         println!("| {row} | {} |", cells.join(" | "));
     }
+    let batch = findings.list[3 * ROWS.len()..].iter().map(cell);
+    let batch: Vec<String> = batch.collect();
+    println!("| 64 at once, to 11 bits | | {} |", batch.join(" | "));
 }
 
 fn main() {

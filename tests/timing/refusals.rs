@@ -62,7 +62,7 @@ fn too_short(case: &Case, by: u64, runs: Range<usize>) -> [Case; 2] {
 }
 
 /// Three runs of unequal length, too long and too short.
-fn by_three(case: &Case, by: u64, runs: Range<usize>) -> Vec<Case> {
+pub fn by_three(case: &Case, by: u64, runs: Range<usize>) -> Vec<Case> {
     let longer = |k: usize| {
         let lent = case.runs[k].lent + 1;
         case.refused(8, &format!("{lent} words in run {k}"), |case| {

@@ -1,9 +1,10 @@
 //! The rounds of a list of cases, and what the reference says that each leaves.
 
 use crate::cases::{Case, Run};
-use crate::format::{Places, ROOM, RUNS, STEP, WRITTEN};
+use crate::format::{Places, BATCH, PREPARE, ROOM, RUNS, WRITTEN};
 use crate::words::{are_telling, DRAWS};
 use jobs::draw::Draw;
+use reference::batch::{batch_words, Batch};
 use reference::layout::{prepare_words, step_words};
 use reference::machine::Lent;
 
@@ -24,7 +25,8 @@ pub struct Rounds {
 fn head(case: &Case) -> Vec<u64> {
     let place = |run: &Run| [run.lent, run.from, run.words.len()].map(|n| n as u64);
     let places: Places = case.runs.each_ref().map(place);
-    [&[case.call, case.code], places.as_flattened()].concat()
+    let [first, second] = case.numbers;
+    [&[case.call, first, second], places.as_flattened()].concat()
 }
 
 /// Puts the words of a draw into the runs.
@@ -42,16 +44,30 @@ fn call(case: &Case, runs: &mut Runs) -> u64 {
     let lent = runs
         .each_mut()
         .map(|run| &mut run[..given.next().unwrap().lent]);
-    let [order, record, m0, m1, m2, dealer, c0, c1, c2, answer] = lent;
-    if case.call != STEP {
-        return prepare_words(case.code, dealer, c0, answer);
+    let [order, record, m0, m1, m2, dealer, c0, c1, c2, answer, a0, a1, a2, z0, z1, z2] = lent;
+    let [first, second] = case.numbers;
+    match case.call {
+        PREPARE => prepare_words(first, dealer, c0, answer),
+        BATCH => {
+            let mut batch = Batch {
+                width: first,
+                bits: second,
+                shares: [a0, a1, a2],
+                masks: [m0, m1, m2],
+                channels: [c0, c1, c2],
+                results: [z0, z1, z2],
+            };
+            batch_words(&mut batch, answer)
+        }
+        _ => {
+            let mut lent = Lent {
+                masks: [m0, m1, m2],
+                dealer,
+                channels: [c0, c1, c2],
+            };
+            step_words(order, record, &mut lent, answer)
+        }
     }
-    let mut lent = Lent {
-        masks: [m0, m1, m2],
-        dealer,
-        channels: [c0, c1, c2],
-    };
-    step_words(order, record, &mut lent, answer)
 }
 
 fn reply(case: &Case, runs: &mut Runs, drawn: &[u64]) -> Reply {
