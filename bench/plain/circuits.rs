@@ -9,7 +9,7 @@ fn bits(words: Sharing, j: usize) -> Sharing {
 }
 
 #[inline(always)]
-fn xor(a: Sharing, b: Sharing) -> Sharing {
+pub fn xor(a: Sharing, b: Sharing) -> Sharing {
     [a[0] ^ b[0], a[1] ^ b[1], a[2] ^ b[2]]
 }
 
@@ -22,7 +22,7 @@ fn set(words: &mut Sharing, j: usize, b: Sharing) {
 
 /// c XOR ((x XOR c) AND (y XOR c)).
 #[inline(always)]
-fn majority(lent: &mut Lent, k: usize, x: Sharing, y: Sharing, c: Sharing) -> Sharing {
+pub fn majority(lent: &mut Lent, k: usize, x: Sharing, y: Sharing, c: Sharing) -> Sharing {
     xor(c, lent.bit_gate(k, xor(x, c), xor(y, c)))
 }
 

@@ -3,7 +3,7 @@
 use crate::record::{soundness, Record};
 use crate::step::{step, with_three, Answer, Order, Runs};
 
-const MALFORMED: u64 = 100;
+pub const MALFORMED: u64 = 100;
 
 fn read_order(words: &[u64]) -> Option<Order> {
     match *words {

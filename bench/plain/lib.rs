@@ -1,5 +1,6 @@
 //! The machine of 01 in plain Rust, written to be fast: what the benchmark holds Rattle against.
 
+pub mod batch;
 pub mod chains;
 mod circuits;
 mod gates;
@@ -7,4 +8,5 @@ pub mod job;
 pub mod layout;
 mod record;
 mod ring;
+mod squares;
 pub mod step;

@@ -62,7 +62,7 @@ impl Answer {
     }
 }
 
-fn refuse_if(met: bool, refusal: Refusal) -> Result<(), Refusal> {
+pub fn refuse_if(met: bool, refusal: Refusal) -> Result<(), Refusal> {
     if met {
         Err(refusal)
     } else {
@@ -100,7 +100,7 @@ fn ring(width: u64) -> Result<Ring, Refusal> {
     Ring::of_width(width).ok_or(5)
 }
 
-fn uneven(lengths: [usize; 3]) -> bool {
+pub fn uneven(lengths: [usize; 3]) -> bool {
     lengths[0] != lengths[1] || lengths[1] != lengths[2] || lengths[0] as u64 > LIMIT
 }
 
@@ -120,7 +120,7 @@ fn any_wider(tapes: [&[u64]; 3]) -> bool {
 }
 
 /// Whether an item is p or more: it has a bit from e up, or the number after it has.
-fn any_outside(r: Ring, tapes: [&[u64]; 3]) -> bool {
+pub fn any_outside(r: Ring, tapes: [&[u64]; 3]) -> bool {
     united(tapes, |item| item | item.wrapping_add(1)) > r.p
 }
 
