@@ -1,147 +1,121 @@
 -- The stages one after another, the planes of the result, and the whole order for each figure.
-use Prim.Native.Nat.{ℕ, suc, _+_, _*_, _-_, _/_, _<_, _≤_, _^_}
+use Prim.Native.Nat.{ℕ, _+_, _*_, _-_, _/_, _<_, _≤_}
 use mathlib.Core.List.{List, [], _∷_, _++_, append-assoc}
 use mathlib.Core.Path.{_≡_, ap, ap₂, refl, sym, _∙_}
-use native.Mathlib.Numerals.{add-one}
 use native.Mathlib.Omega.{arith}
 use lib.Bits.{bitXor}
-use lib.ListN.{getD, getD-replicate, length, length-append, replicate}
+use lib.ListN.{length, length-append}
 use Rattle.ring.specs.Rings.{bitOf, modulus}
 use Rattle.gate.specs.Places.{Place}
 use Rattle.gate.specs.declared.sharing.Sharing.{Sharing}
 use Rattle.circuit.specs.Bits.{gather, xor}
 use Rattle.circuit.specs.Circuits.{Gate, upto}
-use Rattle.circuit.specs.Decompose.{Digits, carryGate, decomposeGates, raisingGate, runningGate, zeroGate}
+use Rattle.circuit.specs.Decompose.{Digits, carryGate, raisingGate, runningGate, zeroGate}
 use Rattle.circuit.specs.Lent.{Ran}
-use Rattle.circuit.specs.Sharings.{fourTimes, itemsAt, zeros}
-use Rattle.circuit.proofs.BitsLaw.{bit-upper, bit-xor, gather-bits}
+use Rattle.circuit.specs.Sharings.{fourTimes, itemsAt}
+use Rattle.circuit.proofs.BitsLaw.{bit-upper, bit-xor, gather-bits, gather-same}
 use Rattle.circuit.proofs.LentLaw.{ran-none}
 use Rattle.circuit.proofs.RunLaw.{length-upto}
-use Rattle.decompose.specs.Words.{bitsAt, bitsXor, finished, stored, totalled, upper}
+use Rattle.decompose.specs.Turns.{Ended}
+use Rattle.decompose.specs.Words.{bitsAt, bitsXor, finished, totalled, upper}
 use Rattle.decompose.proofs.StageLaw.{ended-here, left-is}
-use Rattle.planes.specs.Planes.{Loaded, NoPlanes, columns, planesAt, withPlanes, wordsXor}
-use Rattle.planes.proofs.PlaceLaw.{column-bits, column-ends, column-more, other-planes}
+use Rattle.planes.specs.Planes.{Loaded, NoPlanes, columns, planesAt, wordsXor}
+use Rattle.planes.proofs.PlaceLaw.{column-bits, column-ends}
 use Rattle.planes.proofs.WordLaw.{bits-xor}
 use Rattle.lanes.specs.Lanes.{lanes}
-use Rattle.lanes.specs.Stages.{GatesRan, Laned, ResultPlanes, Went, Worked, carried, fresh, raised, summed, totalPlanes}
-use Rattle.lanes.proofs.StageLaw.{total-bits}
+use Rattle.lanes.specs.Stages.{Cleared, Increments, Laned, Raising, Running, SumsRan, Totals, Went, Worked, Zeroed, carried, fresh, raised, summed, totalPlanes}
+use Rattle.lanes.proofs.StageLaw.{ClearedTo, total-bits}
 
-module _ (l : ℕ) (x q r a₀ a : List ℕ) {m c d e f g : Place → List ℕ} (some : 1 ≤ l)
-    (first : Went 0 (l + 1) carryGate (fresh x) (carried x q (l + 1 + 1)) m c d)
-    (second : Went (l + 1) l (λ i. runningGate (i + 1)) (carried x q (l + 2)) (summed x q r (l + 2)) m d e)
-    (third : Went (l + 1 + l) 1 (λ _. zeroGate) (summed x q r (l + 2)) (raised x q r a₀ (l + 2) 1) m e f)
-    (fourth : Went (l + 1 + l + 1) (l - 1) raisingGate (raised x q r a₀ (l - 1 + 3) 1) (raised x q r a (l - 1 + 3) (l - 1 + 1)) m f g) where
-  abbrev G₂ : List (Gate Digits)
-  G₂ = upto carryGate (l + 1) ++ upto (λ i. runningGate (i + 1)) l
+-- ---- (i) and (ii)
 
-  abbrev G₃ : List (Gate Digits)
-  G₃ = G₂ ++ upto (λ _. zeroGate) 1
+pub sums-ran : {l : ℕ} {x q s : List ℕ} {m c d e : Place → List ℕ} → Went 0 (l + 1) carryGate (fresh x) (carried x q (l + 1 + 1)) m c d
+    → Running (l + 1) l x q s m d e → SumsRan l x s m c e
+sums-ran {l} {x} {q} {m = m} {c = c} first second =
+    let two : l + 1 + 1 ≡ l + 2 = omega arith in
+    record {
+      q = q;
+      r = second .r;
+      totals = second .totals;
+      ran = λ k. second .went .on k _ _ _ (length-upto carryGate (l + 1))
+          (rw two at (first .on k [] (fresh x k) (lanes k c) refl (ran-none (fresh x k) (lanes k m) (lanes k c))));
+    }
 
-  counted : length G₂ ≡ l + 1 + l
-  counted =
-      length-append (upto carryGate (l + 1)) (upto (λ i. runningGate (i + 1)) l)
-      ∙ ap₂ (λ (m n : ℕ). m + n) (length-upto carryGate (l + 1)) (length-upto (λ i. runningGate (i + 1)) l)
+-- ---- (iii) and (iv)
 
-  counted-more : length G₃ ≡ l + 1 + l + 1
-  counted-more = length-append G₂ (upto (λ _. zeroGate) 1) ∙ ap₂ (λ (m n : ℕ). m + n) counted (length-upto (λ _. zeroGate) 1)
+-- bit j of a place's result
+upper-bit : (total raising j : ℕ) → xor (bitOf total (j + 2)) (bitOf raising j) ≡ bitOf (bitXor (total / 4) raising) j
+upper-bit total raising j = sym (bit-xor (total / 4) raising j ∙ ap (λ (n : ℕ). xor n (bitOf raising j)) (bit-upper total j))
 
-  module _ (k : ℕ) where
-    ran-1 : Ran (upto carryGate (l + 1)) (fresh x k) (lanes k m) (lanes k c) (carried x q (l + 2) k) (lanes k d)
-    ran-1 =
-        let two : l + 1 + 1 ≡ l + 2 = omega arith in
-        rw two at (first .on k [] (fresh x k) (lanes k c) refl (ran-none (fresh x k) (lanes k m) (lanes k c)))
+upper-is : (l total raising : ℕ) {b : ℕ → ℕ} → ((j : ℕ) → j < l → b j ≡ xor (bitOf total (j + 2)) (bitOf raising j)) → gather l b ≡ upper total raising l
+unfolding upper
+upper-is l total raising same =
+    gather-same l (λ j h. same j h ∙ upper-bit total raising j) ∙ gather-bits l (bitXor (total / 4) raising)
 
-    ran-2 : Ran G₂ (fresh x k) (lanes k m) (lanes k c) (summed x q r (l + 2) k) (lanes k e)
-    ran-2 = second .on k _ _ _ (length-upto carryGate (l + 1)) ran-1
+-- planes that are the total's from 2 up with the carries of the increment are the result's
+module _ (l : ℕ) (x q r a o : List ℕ) (small : l < 60)
+    (digits : (j : ℕ) → j < l → planesAt j o ≡ wordsXor (totalPlanes (j + 2) x q r) (planesAt j a)) (k : ℕ) where
+  abbrev total : Sharing
+  total = totalled (columns 64 x k) (columns (l + 2) q k) (columns (l + 2) r k)
 
-    ran-3 : Ran G₃ (fresh x k) (lanes k m) (lanes k c) (raised x q r a₀ (l + 2) 1 k) (lanes k f)
-    ran-3 = third .on k _ _ _ counted ran-2
+  bits : (j : ℕ) → j < l → bitsAt (planesAt j o) k ≡ bitsXor (bitsAt total (j + 2)) (bitsAt (columns l a k) j)
+  bits j h =
+      ap (λ (w : Sharing). bitsAt w k) (digits j h) ∙ bits-xor (totalPlanes (j + 2) x q r) (planesAt j a) k
+      ∙ ap₂ bitsXor (total-bits (l + 2) x q r (j + 2) k (omega arith) (omega arith)) (sym (column-bits l a k j h))
 
-    ran-4 : Ran (G₃ ++ upto raisingGate (l - 1)) (fresh x k) (lanes k m) (lanes k c) (raised x q r a (l + 2) l k) (lanes k g)
-    ran-4 =
-        let up : l - 1 + 3 ≡ l + 2 = omega arith in
-        let all : l - 1 + 1 ≡ l = omega arith in
-        rw (up, all) at (fourth .on k _ _ _ counted-more (rw (← up) at ran-3))
+  finished-is : columns l o k ≡ finished total (columns l a k) l
+  finished-is = rw (
+    upper-is l (total .s0) (columns l a k .s0) (λ j h. ap (λ (w : Sharing). w .s0) (bits j h)),
+    upper-is l (total .s1) (columns l a k .s1) (λ j h. ap (λ (w : Sharing). w .s1) (bits j h)),
+    upper-is l (total .s2) (columns l a k .s2) (λ j h. ap (λ (w : Sharing). w .s2) (bits j h)),
+  )
 
-  pub gates-ran : GatesRan l x q r a m c g
-  unfolding decomposeGates upto
-  gates-ran = record {
-    at = λ k. rw (
-      append-assoc G₂ (zeroGate ∷ []) (upto raisingGate (l - 1)),
-      append-assoc (upto carryGate (l + 1)) (upto (λ i. runningGate (i + 1)) l) (zeroGate ∷ upto raisingGate (l - 1)),
-    ) at (ran-4 k);
-  }
-
--- ---- the planes of the result
-
-upper-none : (total raising : ℕ) → 0 ≡ upper total raising 0
-unfolding upper gather
-upper-none total raising = gather-bits 0 (bitXor (total / 4) raising)
-
-upper-more : (total raising j : ℕ) → upper total raising (j + 1) ≡ upper total raising j + xor (bitOf total (j + 2)) (bitOf raising j) * 2 ^ j
-unfolding upper gather
-upper-more total raising j =
-    let w = bitXor (total / 4) raising in
-    let bit : bitOf w j ≡ xor (bitOf total (j + 2)) (bitOf raising j)
-    = bit-xor (total / 4) raising j ∙ ap (λ (n : ℕ). xor n (bitOf raising j)) (bit-upper total j) in
-    rw (add-one j) (sym (gather-bits (suc j) w) ∙ ap₂ (λ (n b : ℕ). n + b * 2 ^ j) (gather-bits j w) bit)
-
-finished-more : (total raising : Sharing) (j : ℕ)
-    → stored (finished total raising j) (bitsXor (bitsAt total (j + 2)) (bitsAt raising j)) j ≡ finished total raising (j + 1)
-finished-more total raising j =
-    rw (upper-more (total .s0) (raising .s0) j, upper-more (total .s1) (raising .s1) j, upper-more (total .s2) (raising .s2) j)
-
--- the first j bits of the result, and no planes from j on
-pub record Reached (j l : ℕ) (x q r a o : List ℕ) : Type 0 where
-  pub at : (k : ℕ) → columns j o k ≡ finished (totalled (columns 64 x k) (columns (l + 2) q k) (columns (l + 2) r k)) (columns l a k) j
-  pub none : NoPlanes j o
-
-pub reached-none : (l : ℕ) (x q r a o : List ℕ) → NoPlanes 0 o → Reached 0 l x q r a o
-unfolding gather
-reached-none l x q r a o empty = record {
-  at = λ k.
-      let total = totalled (columns 64 x k) (columns (l + 2) q k) (columns (l + 2) r k) in
-      let raising = columns l a k in
-      rw (← upper-none (total .s0) (raising .s0), ← upper-none (total .s1) (raising .s1), ← upper-none (total .s2) (raising .s2)) refl;
-  none = empty;
+pub cleared : {n j : ℕ} {before after : List ℕ} → n ≤ 64 → 64 ≤ j → ClearedTo n j before after → Cleared n before after
+cleared small all so-far = record {
+  stand = λ i h. so-far .stand i h (omega arith);
+  none = record { at = λ i from h. so-far .none i from (omega arith) h };
 }
 
-pub reached-more : (j l : ℕ) (x q r a o o′ : List ℕ) (t b w : Sharing) → j < l → l < 60 → length o ≡ 192
-    → t ≡ totalPlanes (j + 2) x q r → b ≡ planesAt j a → w ≡ wordsXor t b → o′ ≡ withPlanes o j w
-    → Reached j l x q r a o → Reached (j + 1) l x q r a o′
-reached-more j l x q r a o o′ t b w inside small long t-is b-is w-is o-is reached = rw o-is (record {
-  at = λ k.
-      let total = totalled (columns 64 x k) (columns (l + 2) q k) (columns (l + 2) r k) in
-      let raising = columns l a k in
-      let bits : bitsAt w k ≡ bitsXor (bitsAt total (j + 2)) (bitsAt raising j)
-      = ap (λ (y : Sharing). bitsAt y k) w-is ∙ bits-xor t b k
-      ∙ ap₂ bitsXor (ap (λ (y : Sharing). bitsAt y k) t-is ∙ total-bits (l + 2) x q r (j + 2) k (omega arith) (omega arith))
-      (ap (λ (y : Sharing). bitsAt y k) b-is ∙ sym (column-bits l a k j inside)) in
-      column-more o j w (omega arith) long k ∙ ap₂ (λ (y z : Sharing). stored y z j) (reached .at k) bits ∙ finished-more total raising j;
-  none = record { at = λ i from h. other-planes o j w (omega arith) long i h (λ e. omega arith) ∙ reached .none .at i (omega arith) h };
-})
+-- the two stages after others, with the planes a₀ of the first carry and a of all
+increment-ended : (l : ℕ) (x q r a₀ a o : List ℕ) {m c d e : Place → List ℕ} → 1 ≤ l → l < 60
+    → Went (l + 1 + l) 1 (λ _. zeroGate) (summed x q r (l + 2)) (raised x q r a₀ (l + 2) 1) m c d
+    → Went (l + 1 + l + 1) (l - 1) raisingGate (raised x q r a₀ (l - 1 + 3) 1) (raised x q r a (l - 1 + 3) (l - 1 + 1)) m d e
+    → ((j : ℕ) → j < l → planesAt j o ≡ wordsXor (totalPlanes (j + 2) x q r) (planesAt j a)) → NoPlanes l o
+    → (k : ℕ) (G : List (Gate Digits)) (s₀ : Place → Digits) (first : Place → List ℕ) → length G ≡ l + 1 + l
+    → Ran G s₀ (lanes k m) first (summed x q r (l + 2) k) (lanes k c)
+    → Ended l (G ++ (zeroGate ∷ upto raisingGate (l - 1))) s₀ (lanes k m) first (columns 64 o k) (lanes k e)
+unfolding upto
+increment-ended l x q r a₀ a o some few zero raising digits none k G s₀ first counted ran =
+    let up : l - 1 + 3 ≡ l + 2 = omega arith in
+    let all : l - 1 + 1 ≡ l = omega arith in
+    let one = zero .on k G s₀ first counted ran in
+    let more : length (G ++ (zeroGate ∷ [])) ≡ l + 1 + l + 1 = length-append G (zeroGate ∷ []) ∙ ap (λ (n : ℕ). n + 1) counted in
+    let whole = rw (up, all) at (raising .on k (G ++ (zeroGate ∷ [])) s₀ first more (rw (← up) at one)) in
+    ended-here l (rw (append-assoc G (zeroGate ∷ []) (upto raisingGate (l - 1))) at whole)
+    (column-ends l o k (omega arith) none ∙ finished-is l x q r a o few digits k) refl
 
-pub reached-all : {l : ℕ} {x q r a o : List ℕ} → l ≤ 64 → Reached l l x q r a o → ResultPlanes l x q r a o
-reached-all {l} {o = o} small reached = record { at = λ k. column-ends l o k small (reached .none) ∙ reached .at k }
-
--- planes that are all 0
-pub zeros-none : NoPlanes 0 (replicate 192 0)
-zeros-none = record {
-  at = λ j from h.
-      let o : List ℕ = replicate 192 0 in
-      let none : (i : ℕ) → i < 192 → getD o i 0 ≡ 0 = λ i inside. getD-replicate {A = ℕ} 192 i 0 0 inside in
-      rw (none j (omega arith), none (64 + j) (omega arith), none (128 + j) (omega arith));
+pub increments : {l : ℕ} {s o o′ : List ℕ} {m c d e : Place → List ℕ} {v : Sharing} → 1 ≤ l → l < 60
+    → ((n : ℕ) (x q r : List ℕ) → 1 < n → n ≤ 64 → Totals n x q r s → Zeroed (l + 1 + l) n x q r v m c d)
+    → ((x q r a₀ : List ℕ) → Totals (l - 1 + 3) x q r s → length a₀ ≡ 192 → v ≡ planesAt 0 a₀ → Raising (l + 1 + l + 1) (l - 1) x q r a₀ o m d e)
+    → Cleared l o o′ → Increments l s o′ m c e
+increments {l} {s} {o} {o′} some few zero raising clear = record {
+  on = λ x q r totals.
+      let up : l - 1 + 3 ≡ l + 2 = omega arith in
+      let z = zero (l + 2) x q r (omega arith) (omega arith) totals in
+      let a = raising x q r (z .a) (rw up totals) (z .long) (z .first) in
+      increment-ended l x q r (z .a) (a .a) o′ some few (z .went) (a .went) (λ j h. clear .stand j h ∙ a .digits j (omega arith)) (clear .none);
 }
-
-pub none-wider : (l e : ℕ) (o : List ℕ) → l ≤ e → NoPlanes l o → NoPlanes e o
-none-wider l e o wider none = record { at = λ j from h. none .at j (omega arith) h }
 
 -- ---- the whole order, for each figure
 
-pub worked : {l : ℕ} {x q r a o : List ℕ} {m c d : Place → List ℕ} → GatesRan l x q r a m c d → ResultPlanes l x q r a o → Worked l x o m c d
-unfolding decomposeGates
-worked {l} ran result = record {
-  on = λ k e a z from to. left-is e l a from (ended-here l (ran .at k) (sym to ∙ result .at k) refl);
+pub worked : {l : ℕ} {x s o : List ℕ} {m c d e : Place → List ℕ} → SumsRan l x s m c d → Increments l s o m d e → Worked l x o m c e
+worked {l} {x} {o = o} {m} {c} {e = e} sums increments = record {
+  on = λ k w a z from to.
+      let counted : length (upto carryGate (l + 1) ++ upto (λ i. runningGate (i + 1)) l) ≡ l + 1 + l
+      = length-append (upto carryGate (l + 1)) (upto (λ i. runningGate (i + 1)) l)
+      ∙ ap₂ (λ (m n : ℕ). m + n) (length-upto carryGate (l + 1)) (length-upto (λ i. runningGate (i + 1)) l) in
+      let ended = increments .on x (sums .q) (sums .r) (sums .totals) k _ _ _ counted (sums .ran k) in
+      left-is w l a from
+      (rw (append-assoc (upto carryGate (l + 1)) (upto (λ i. runningGate (i + 1)) l) (zeroGate ∷ upto raisingGate (l - 1)), to) at ended);
 }
 
 pub laned : (e l : ℕ) (a₀ a₁ a₂ z₀ z₁ z₂ : List ℕ) {x o : List ℕ} {m c d : Place → List ℕ}
@@ -152,3 +126,6 @@ pub laned : (e l : ℕ) (a₀ a₁ a₂ z₀ z₁ z₂ : List ℕ) {x o : List �
 laned e l a₀ a₁ a₂ z₀ z₁ z₂ from work to = record {
   at = λ k inside. work .on k e (itemsAt k a₀ a₁ a₂) (itemsAt k z₀ z₁ z₂) (from .at k inside) (to .at k inside);
 }
+
+pub none-wider : (l e : ℕ) (o : List ℕ) → l ≤ e → NoPlanes l o → NoPlanes e o
+none-wider l e o wider none = record { at = λ j from h. none .at j (omega arith) h }

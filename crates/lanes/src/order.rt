@@ -6,21 +6,18 @@ ghost use Rattle.ring.specs.Rings.{modulusOf, widthOf};
 ghost use Rattle.gate.specs.Lent.{atEntry, atExit};
 ghost use Rattle.circuit.specs.Lent.{ItemsBelow, Long};
 ghost use Rattle.planes.specs.Planes.{NoPlanes};
-ghost use Rattle.lanes.specs.Stages.{GatesRan, Laned, ResultPlanes, Worked};
+ghost use Rattle.lanes.specs.Stages.{Increments, Laned, SumsRan, Worked};
 use crate::stages::carry_lanes;
 use crate::stages::raising_lanes;
 use crate::stages::running_lanes;
 use crate::stages::zero_lanes;
-use crate::words::total_at;
+use crate::words::clear_planes;
 use planes::load;
-use planes::planes_at;
-use planes::store_planes;
 use planes::unload;
-use planes::words_xor;
 use ring::Ring;
 
-// The 3l + 1 gates: q, r and a are left with the planes of carries, running carries and carries of the increment.
-fn gates(
+// (i) and (ii): the total, in s.
+fn sums(
     x: &[u64],
     l: usize,
     m0: &[u64],
@@ -29,55 +26,23 @@ fn gates(
     c0: &mut [u64],
     c1: &mut [u64],
     c2: &mut [u64],
-    q: &mut [u64],
-    r: &mut [u64],
-    a: &mut [u64],
+    s: &mut [u64],
 )
     requires count { ⌜ (1 ≤ l) × (l < 60) ⌝ }
     requires masks { ⌜ Long (3 * l + 1) (now m0) (now m1) (now m2) ⌝ }
     requires channels { ⌜ Long (3 * l + 1) (now c0) (now c1) (now c2) ⌝ }
     requires planes { ⌜ length (now x) ≡ 192 ⌝ }
-    requires carries { ⌜ length (now q) ≡ 192 ⌝ }
-    requires running { ⌜ length (now r) ≡ 192 ⌝ }
-    requires raising { ⌜ length (now a) ≡ 192 ⌝ }
-    ensures { λ _. ⌜ GatesRan l (now (x .entry)) (now (q .exit)) (now (r .exit)) (now (a .exit))
-        (atEntry m0 m1 m2) (atEntry c0 c1 c2) (atExit c0 c1 c2) ⌝ }
+    requires total { ⌜ length (now s) ≡ 192 ⌝ }
+    ensures { λ _. ⌜ SumsRan l (now (x .entry)) (now (s .exit)) (atEntry m0 m1 m2) (atEntry c0 c1 c2) (atExit c0 c1 c2) ⌝ }
 {
     let n = l + 1;
-    let p = n + l;
-    let w = l + 2;
-    let s = p + 1;
-    let u = l - 1;
-    carry_lanes(x, n, 0, m0, m1, m2, c0, c1, c2, q);
-    running_lanes(x, q, l, n, m0, m1, m2, c0, c1, c2, r);
-    zero_lanes(x, q, r, w, p, m0, m1, m2, c0, c1, c2, a);
-    raising_lanes(x, q, r, u, s, m0, m1, m2, c0, c1, c2, a);
+    carry_lanes(x, n, 0, m0, m1, m2, c0, c1, c2, s);
+    running_lanes(x, l, n, m0, m1, m2, c0, c1, c2, s);
 }
 
-// The planes of the result; those from l on stay 0.
-fn result(x: &[u64], q: &[u64], r: &[u64], a: &[u64], l: usize, o: &mut [u64])
-    requires count { ⌜ l < 60 ⌝ }
-    requires planes { ⌜ length (now x) ≡ 192 ⌝ }
-    requires carries { ⌜ length (now q) ≡ 192 ⌝ }
-    requires running { ⌜ length (now r) ≡ 192 ⌝ }
-    requires raising { ⌜ length (now a) ≡ 192 ⌝ }
-    requires out { ⌜ length (now o) ≡ 192 ⌝ }
-    requires empty { ⌜ NoPlanes 0 (now o) ⌝ }
-    ensures is { λ _. ⌜ ResultPlanes l (now (x .entry)) (now (q .entry)) (now (r .entry)) (now (a .entry)) (now (o .exit)) ⌝ }
-    ensures none { λ _. ⌜ NoPlanes l (now (o .exit)) ⌝ }
-{
-    let mut j = 0;
-    while j < l {
-        let t = total_at(x, q, r, j + 2);
-        let b = planes_at(a, j);
-        store_planes(o, j, words_xor(t, b));
-        j += 1;
-    }
-}
-
-// From the planes of x to those of the result.
-fn work(
-    x: &[u64],
+// (iii) and (iv): the increment of the total's bits from 2 up, and the planes of the result.
+fn increment(
+    s: &[u64],
     l: usize,
     m0: &[u64],
     m1: &[u64],
@@ -90,17 +55,39 @@ fn work(
     requires count { ⌜ (1 ≤ l) × (l < 60) ⌝ }
     requires masks { ⌜ Long (3 * l + 1) (now m0) (now m1) (now m2) ⌝ }
     requires channels { ⌜ Long (3 * l + 1) (now c0) (now c1) (now c2) ⌝ }
-    requires planes { ⌜ length (now x) ≡ 192 ⌝ }
+    requires total { ⌜ length (now s) ≡ 192 ⌝ }
     requires out { ⌜ length (now o) ≡ 192 ⌝ }
-    requires empty { ⌜ NoPlanes 0 (now o) ⌝ }
-    ensures is { λ _. ⌜ Worked l (now (x .entry)) (now (o .exit)) (atEntry m0 m1 m2) (atEntry c0 c1 c2) (atExit c0 c1 c2) ⌝ }
+    ensures is { λ _. ⌜ Increments l (now (s .entry)) (now (o .exit)) (atEntry m0 m1 m2) (atEntry c0 c1 c2) (atExit c0 c1 c2) ⌝ }
     ensures none { λ _. ⌜ NoPlanes l (now (o .exit)) ⌝ }
 {
-    let mut q = [0; 192];
-    let mut r = [0; 192];
-    let mut a = [0; 192];
-    gates(x, l, m0, m1, m2, c0, c1, c2, &mut q, &mut r, &mut a);
-    result(x, &q, &r, &a, l, o);
+    let p = l + 1 + l;
+    let n = l - 1;
+    let first = zero_lanes(s, p, m0, m1, m2, c0, c1, c2);
+    raising_lanes(s, first, n, p + 1, m0, m1, m2, c0, c1, c2, o);
+    clear_planes(o, l);
+}
+
+// From the planes of x to those of the result, in place.
+fn work(
+    x: &mut [u64],
+    l: usize,
+    m0: &[u64],
+    m1: &[u64],
+    m2: &[u64],
+    c0: &mut [u64],
+    c1: &mut [u64],
+    c2: &mut [u64],
+)
+    requires count { ⌜ (1 ≤ l) × (l < 60) ⌝ }
+    requires masks { ⌜ Long (3 * l + 1) (now m0) (now m1) (now m2) ⌝ }
+    requires channels { ⌜ Long (3 * l + 1) (now c0) (now c1) (now c2) ⌝ }
+    requires planes { ⌜ length (now x) ≡ 192 ⌝ }
+    ensures is { λ _. ⌜ Worked l (now (x .entry)) (now (x .exit)) (atEntry m0 m1 m2) (atEntry c0 c1 c2) (atExit c0 c1 c2) ⌝ }
+    ensures none { λ _. ⌜ NoPlanes l (now (x .exit)) ⌝ }
+{
+    let mut s = [0; 192];
+    sums(x, l, m0, m1, m2, c0, c1, c2, &mut s);
+    increment(&s, l, m0, m1, m2, c0, c1, c2, x);
 }
 
 // Decomposes figure k into l bits for each k, with bit k of each item: 3l + 1 gates.
@@ -131,8 +118,7 @@ pub fn decompose_lanes(
     ensures long { λ _. ⌜ (length (now (z0 .exit)) ≡ 64) × (length (now (z1 .exit)) ≡ 64) × (length (now (z2 .exit)) ≡ 64) ⌝ }
 {
     let mut x = [0; 192];
-    let mut o = [0; 192];
     load(r, a0, a1, a2, &mut x);
-    work(&x, l, m0, m1, m2, c0, c1, c2, &mut o);
-    unload(r, &o, z0, z1, z2);
+    work(&mut x, l, m0, m1, m2, c0, c1, c2);
+    unload(r, &mut x, z0, z1, z2);
 }

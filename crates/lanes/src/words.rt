@@ -1,10 +1,15 @@
-// Words of a gate on the channels, and planes of the total.
+// Words of a gate on the channels, planes of the total, and planes cleared.
 ghost use mathlib.Core.Path.{_≡_};
-ghost use Prim.Native.Nat.{_+_, _<_};
+ghost use Prim.Native.Nat.{_+_, _<_, _≤_};
 ghost use lib.ListN.{length};
 ghost use Rattle.circuit.specs.Lent.{Long};
-ghost use Rattle.lanes.specs.Stages.{SentAt, totalPlanes};
+ghost use Rattle.planes.specs.Planes.{planesAt, withPlanes, wordsXor};
+ghost use Rattle.lanes.specs.Stages.{Cleared, SentAt};
+use circuit::zeros;
 use gate::Sharing;
+use planes::planes_at;
+use planes::store_planes;
+use planes::words_xor;
 
 // Writes word `at` of each channel.
 pub fn send_at(c0: &mut [u64], c1: &mut [u64], c2: &mut [u64], at: usize, z: Sharing)
@@ -16,16 +21,28 @@ pub fn send_at(c0: &mut [u64], c1: &mut [u64], c2: &mut [u64], at: usize, z: Sha
     c2[at] = z.s2;
 }
 
-// Plane j of the total.
-pub fn total_at(x: &[u64], q: &[u64], r: &[u64], j: usize) -> Sharing
-    requires first { ⌜ 128 + j < length (now x) ⌝ }
-    requires second { ⌜ 128 + j < length (now q) ⌝ }
-    requires third { ⌜ 128 + j < length (now r) ⌝ }
-    ensures { λ b. ⌜ b ≡ totalPlanes j (now (x .entry)) (now (q .entry)) (now (r .entry)) ⌝ }
+// Plane j of the total, in place of the carries: x, carries and the last running carry.
+pub fn total_in(x: &[u64], s: &mut [u64], j: usize, last: Sharing)
+    requires from { ⌜ 128 + j < length (now x) ⌝ }
+    requires to { ⌜ 128 + j < length (now s) ⌝ }
+    ensures is { λ _. ⌜ now (s .exit) ≡ withPlanes (now (s .entry)) j (wordsXor (wordsXor (planesAt j (now (x .entry))) (planesAt j (now (s .entry)))) last) ⌝ }
+    ensures long { λ _. ⌜ length (now (s .exit)) ≡ length (now (s .entry)) ⌝ }
 {
-    Sharing {
-        s0: x[j] ^ q[j] ^ r[j],
-        s1: x[64 + j] ^ q[64 + j] ^ r[64 + j],
-        s2: x[128 + j] ^ q[128 + j] ^ r[128 + j],
+    let b = planes_at(x, j);
+    let u = planes_at(s, j);
+    store_planes(s, j, words_xor(words_xor(b, u), last));
+}
+
+// Planes from n on become 0.
+pub fn clear_planes(o: &mut [u64], n: usize)
+    requires count { ⌜ n ≤ 64 ⌝ }
+    requires room { ⌜ length (now o) ≡ 192 ⌝ }
+    ensures is { λ _. ⌜ Cleared n (now (o .entry)) (now (o .exit)) ⌝ }
+    ensures long { λ _. ⌜ length (now (o .exit)) ≡ 192 ⌝ }
+{
+    let mut j = n;
+    while j < 64 {
+        store_planes(o, j, zeros());
+        j += 1;
     }
 }

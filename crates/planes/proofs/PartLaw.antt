@@ -3,9 +3,10 @@ use Prim.Native.Nat.{ℕ, _+_, _-_, _<_, _≤_}
 use mathlib.Core.List.{List, _++_}
 use mathlib.Core.Path.{_≡_, ap, sym, _∙_}
 use native.Mathlib.Nat.{min-eq-left}
+use native.Mathlib.Omega.{arith}
 use borrow.Rule.Slice.PartMut.{drop-put, midOf, putMid, take-put}
 use lib.ListN.{List·getD-append, drop, getD, length, length-take, take}
-use lib.Seq.{getD-append-add, getD-drop, getD-take}
+use lib.Seq.{drop-drop, getD-append-add, getD-drop, getD-take}
 
 pub mid-at : (a n : ℕ) (xs : List ℕ) (j : ℕ) → j < n → getD (midOf a n xs) j 0 ≡ getD xs (a + j) 0
 mid-at a n xs j inside = getD-take n (drop a xs) j 0 inside ∙ getD-drop a xs j 0
@@ -30,3 +31,15 @@ put-after a e xs ys order fits long i =
     sym (getD-drop e (putMid a (e - a) xs ys) i 0)
     ∙ ap (λ (l : List ℕ). getD l i 0) (drop-put a e xs ys order fits long)
     ∙ getD-drop e xs i 0
+
+-- a part behind the one that was put back
+pub mid-put : (a b n : ℕ) (xs ys : List ℕ) → a + n ≤ b → a + n ≤ length xs → length ys ≡ n → (k : ℕ) → midOf b k (putMid a n xs ys) ≡ midOf b k xs
+mid-put a b n xs ys behind fits long k =
+    let e : ℕ = a + n in
+    let size : n ≡ e - a = omega arith in
+    let rest : e + (b - e) ≡ b = omega arith in
+    let same : drop e (putMid a n xs ys) ≡ drop e xs
+    = ap (λ (m : ℕ). drop e (putMid a m xs ys)) size ∙ drop-put a e xs ys (omega arith) fits (long ∙ size) in
+    ap (λ (l : List ℕ). take k l)
+    (ap (λ (m : ℕ). drop m (putMid a n xs ys)) (sym rest) ∙ sym (drop-drop (b - e) e (putMid a n xs ys)) ∙ ap (λ (l : List ℕ). drop (b - e) l) same
+    ∙ drop-drop (b - e) e xs ∙ ap (λ (m : ℕ). drop m xs) rest)

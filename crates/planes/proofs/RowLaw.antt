@@ -33,10 +33,11 @@ planes-are v same small turned = record {
   at = λ k inside. from-bits (v k) (small k inside) (λ j h. turned .is k j inside h ∙ ap (λ (w : ℕ). bitOf w j) (same k inside));
 }
 
-pub rows-are : {o rows z : List ℕ} → Copied 64 o rows → ((k : ℕ) → k < 64 → getD z k 0 < 2 ^ 64) → Transposed rows z → PlanesOf (wordsAt z) o
-rows-are {z = z} same small turned = record {
+pub rows-are : {o rows z : List ℕ} → Transposed o rows → Copied 64 rows z → ((k : ℕ) → k < 64 → getD z k 0 < 2 ^ 64) → PlanesOf (wordsAt z) o
+rows-are {z = z} turned same small = record {
   at = λ k inside.
-      from-bits (getD z k 0) (small k inside) (λ j h. ap (λ (w : ℕ). bitOf w k) (sym (same .at j h)) ∙ sym (turned .is j k h inside));
+      from-bits (getD z k 0) (small k inside)
+      (λ j h. sym (turned .is j k h inside) ∙ ap (λ (w : ℕ). bitOf w j) (sym (same .at k inside)));
 }
 
 -- one more word of a run
@@ -136,18 +137,17 @@ module _ (v : ℕ → ℕ) (y ys : List ℕ) (small : (k : ℕ) → k < 64 → v
 
 -- ---- and back
 
-module _ (o rows ys z : List ℕ) (above : NoneFrom 32 o) (copied : Copied 32 o rows) (long : length rows ≡ 64) (part : length ys ≡ 32)
-    (turned : BlocksTransposed 32 32 (midOf 0 32 rows) ys) (split : Split 32 (putMid 0 32 rows ys) z)
-    (words : (k : ℕ) → k < 32 → getD (putMid 0 32 rows ys) k 0 < 2 ^ 64) where
+module _ (o ys z : List ℕ) (above : NoneFrom 32 o) (long : length o ≡ 64) (part : length ys ≡ 32)
+    (turned : BlocksTransposed 32 32 (midOf 0 32 o) ys) (split : Split 32 (putMid 0 32 o ys) z)
+    (words : (k : ℕ) → k < 32 → getD (putMid 0 32 o ys) k 0 < 2 ^ 64) where
   -- a bit of a plane is a bit of the row that two figures share
   shared-at : (u : ℕ) → u * 32 + 32 ≤ 64 → (j c : ℕ) → j < 32 → c < 32 → bitOf (getD o j 0) (u * 32 + c) ≡ bitOf (getD ys c 0) (u * 32 + j)
   shared-at u room j c hj hc =
-      ap (λ (w : ℕ). bitOf w (u * 32 + c))
-      (sym (mid-at 0 32 rows j hj ∙ ap (λ (n : ℕ). getD rows n 0) (zero-add j) ∙ copied .at j hj))
+      ap (λ (w : ℕ). bitOf w (u * 32 + c)) (sym (mid-at 0 32 o j hj ∙ ap (λ (n : ℕ). getD o n 0) (zero-add j)))
       ∙ sym (half-at u turned room c j hc hj)
 
-  row-back : (c : ℕ) → c < 32 → getD (putMid 0 32 rows ys) c 0 ≡ getD ys c 0
-  row-back c h = ap (λ (n : ℕ). getD (putMid 0 32 rows ys) n 0) (sym (zero-add c)) ∙ put-at 0 32 rows ys zero-le c (omega arith)
+  row-back : (c : ℕ) → c < 32 → getD (putMid 0 32 o ys) c 0 ≡ getD ys c 0
+  row-back c h = ap (λ (n : ℕ). getD (putMid 0 32 o ys) n 0) (sym (zero-add c)) ∙ put-at 0 32 o ys zero-le c (omega arith)
 
   -- planes from 32 on have no bit, and a word of 32 bits has none there
   all-bits : (k w : ℕ) → w < 2 ^ 32 → ((j : ℕ) → j < 32 → bitOf (getD o j 0) k ≡ bitOf w j)
@@ -190,31 +190,27 @@ none-narrow e o narrow none = record { at = λ j from h. none .at j (omega arith
 
 -- ---- rows split one by one
 
-pub none-split : (z : List ℕ) → Split 0 z z
-none-split z = record { low = below-none _; high = below-none _ }
+pub none-split : (o z : List ℕ) → Split 0 o z
+none-split o z = record { low = below-none _; high = below-none _ }
 
-pub split-more : (k : ℕ) (before z : List ℕ) → k < 32 → length z ≡ 64 → ((i : ℕ) → k ≤ i → i < 32 → getD z i 0 ≡ getD before i 0) → Split k before z
-    → let after : List ℕ = set (set z k (bitAnd (getD z k 0) 0xffffffff)) (32 + k) (getD z k 0 / 2 ^ 32) in
-    ((i : ℕ) → k + 1 ≤ i → i < 32 → getD after i 0 ≡ getD before i 0) × Split (k + 1) before after
-split-more k before z inside long stay done =
-    let w : ℕ = getD z k 0 in
+pub split-more : (k : ℕ) (o z : List ℕ) → k < 32 → length z ≡ 64 → Split k o z
+    → Split (k + 1) o (set (set z k (bitAnd (getD o k 0) 0xffffffff)) (32 + k) (getD o k 0 / 2 ^ 32))
+split-more k o z inside long done =
+    let w : ℕ = getD o k 0 in
     let first : List ℕ = set z k (bitAnd w 0xffffffff) in
     let after : List ℕ = set first (32 + k) (w / 2 ^ 32) in
     let same : length first ≡ 64 = length-set z k (bitAnd w 0xffffffff) ∙ long in
-    let is : w ≡ getD before k 0 = stay k (omega arith) inside in
     let other : (i : ℕ) → (i ≡ k → ⊥) → (i ≡ 32 + k → ⊥) → getD after i 0 ≡ getD z i 0
-    = λ i a b. getD-set-other first (32 + k) i (w / 2 ^ 32) 0 b ∙ getD-set-other z k i (bitAnd w 0xffffffff) 0 a in (
-      λ i from below. other i (λ e. omega arith) (λ e. omega arith) ∙ stay i (omega arith) below,
-      record {
-        low = below-more (λ i. getD after i 0 ≡ getD before i 0 % 2 ^ 32) k
-            (λ i h. other i (λ e. omega arith) (λ e. omega arith) ∙ done .low i h)
-            (getD-set-other first (32 + k) k (w / 2 ^ 32) 0 (λ e. omega arith) ∙ getD-set-same z k (bitAnd w 0xffffffff) 0 (omega arith)
-            ∙ and-mask w 32 ∙ ap (λ (n : ℕ). n % 2 ^ 32) is);
-        high = below-more (λ i. getD after (32 + i) 0 ≡ getD before i 0 / 2 ^ 32) k
-            (λ i h. other (32 + i) (λ e. omega arith) (λ e. omega arith) ∙ done .high i h)
-            (getD-set-same first (32 + k) (w / 2 ^ 32) 0 (omega arith) ∙ ap (λ (n : ℕ). n / 2 ^ 32) is);
-      },
-    )
+    = λ i a b. getD-set-other first (32 + k) i (w / 2 ^ 32) 0 b ∙ getD-set-other z k i (bitAnd w 0xffffffff) 0 a in
+    record {
+      low = below-more (λ i. getD after i 0 ≡ getD o i 0 % 2 ^ 32) k
+          (λ i h. other i (λ e. omega arith) (λ e. omega arith) ∙ done .low i h)
+          (getD-set-other first (32 + k) k (w / 2 ^ 32) 0 (λ e. omega arith) ∙ getD-set-same z k (bitAnd w 0xffffffff) 0 (omega arith)
+          ∙ and-mask w 32);
+      high = below-more (λ i. getD after (32 + i) 0 ≡ getD o i 0 / 2 ^ 32) k
+          (λ i h. other (32 + i) (λ e. omega arith) (λ e. omega arith) ∙ done .high i h)
+          (getD-set-same first (32 + k) (w / 2 ^ 32) 0 (omega arith));
+    }
 
 -- ---- four times a figure
 

@@ -46,15 +46,15 @@ pub fn load(r: Ring, a0: &[u64], a1: &[u64], a2: &[u64], x: &mut [u64])
     planes_of(r, a2, &mut x[128..192]);
 }
 
-// The words of the three places.
-pub fn unload(r: Ring, o: &[u64], z0: &mut [u64], z1: &mut [u64], z2: &mut [u64])
+// The words of the three places. The planes are used up.
+pub fn unload(r: Ring, o: &mut [u64], z0: &mut [u64], z1: &mut [u64], z2: &mut [u64])
     requires planes { ⌜ length (now o) ≡ 192 ⌝ }
     requires lengths { ⌜ (length (now z0) ≡ 64) × (length (now z1) ≡ 64) × (length (now z2) ≡ 64) ⌝ }
     requires width { ⌜ NoPlanes (widthOf r) (now o) ⌝ }
     ensures is { λ _. ⌜ Loaded (λ k. itemsAt k (now (z0 .exit)) (now (z1 .exit)) (now (z2 .exit))) (now (o .entry)) ⌝ }
     ensures long { λ _. ⌜ (length (now (z0 .exit)) ≡ 64) × (length (now (z1 .exit)) ≡ 64) × (length (now (z2 .exit)) ≡ 64) ⌝ }
 {
-    rows_of(r, &o[0..64], z0);
-    rows_of(r, &o[64..128], z1);
-    rows_of(r, &o[128..192], z2);
+    rows_of(r, &mut o[0..64], z0);
+    rows_of(r, &mut o[64..128], z1);
+    rows_of(r, &mut o[128..192], z2);
 }

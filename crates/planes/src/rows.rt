@@ -58,61 +58,61 @@ pub fn planes_of(r: Ring, a: &[u64], y: &mut [u64])
     }
 }
 
-// The first n words of o, to z.
-fn copy(o: &[u64], z: &mut [u64], n: usize)
-    requires from { ⌜ n ≤ length (now o) ⌝ }
-    requires to { ⌜ n ≤ length (now z) ⌝ }
-    ensures is { λ _. ⌜ Copied n (now (o .entry)) (now (z .exit)) ⌝ }
-    ensures long { λ _. ⌜ length (now (z .exit)) ≡ length (now (z .entry)) ⌝ }
+// Word by word, o to z.
+fn copy(o: &[u64], z: &mut [u64])
+    requires from { ⌜ length (now o) ≡ 64 ⌝ }
+    requires to { ⌜ length (now z) ≡ 64 ⌝ }
+    ensures is { λ _. ⌜ Copied 64 (now (o .entry)) (now (z .exit)) ⌝ }
+    ensures long { λ _. ⌜ length (now (z .exit)) ≡ 64 ⌝ }
 {
     let mut k = 0;
-    while k < n {
+    while k < 64 {
         z[k] = o[k];
         k += 1;
     }
 }
 
-// Two words a row become one a row.
-fn split(z: &mut [u64])
-    requires { ⌜ length (now z) ≡ 64 ⌝ }
-    ensures is { λ _. ⌜ Split 32 (now (z .entry)) (now (z .exit)) ⌝ }
+// Two words a row of o become one a row of z.
+fn split(o: &[u64], z: &mut [u64])
+    requires from { ⌜ length (now o) ≡ 64 ⌝ }
+    requires to { ⌜ length (now z) ≡ 64 ⌝ }
+    ensures is { λ _. ⌜ Split 32 (now (o .entry)) (now (z .exit)) ⌝ }
     ensures long { λ _. ⌜ length (now (z .exit)) ≡ 64 ⌝ }
 {
     let mut k = 0;
     while k < 32 {
-        let w = z[k];
+        let w = o[k];
         z[k] = w & 0xffff_ffff;
         z[32 + k] = w >> 32;
         k += 1;
     }
 }
 
-// The words of 64 figures, from their planes, a figure a row.
-fn wide_rows(o: &[u64], z: &mut [u64])
+// The words of 64 figures, from their planes, a figure a row. The planes are used up.
+fn wide_rows(o: &mut [u64], z: &mut [u64])
     requires planes { ⌜ length (now o) ≡ 64 ⌝ }
     requires room { ⌜ length (now z) ≡ 64 ⌝ }
     ensures is { λ _. ⌜ PlanesOf (wordsAt (now (z .exit))) (now (o .entry)) ⌝ }
     ensures long { λ _. ⌜ length (now (z .exit)) ≡ 64 ⌝ }
 {
-    copy(o, z, 64);
-    transpose(z);
+    transpose(o);
+    copy(o, z);
 }
 
 // The same, two figures a row.
-fn narrow_rows(o: &[u64], z: &mut [u64])
+fn narrow_rows(o: &mut [u64], z: &mut [u64])
     requires planes { ⌜ length (now o) ≡ 64 ⌝ }
     requires room { ⌜ length (now z) ≡ 64 ⌝ }
     requires width { ⌜ NoneFrom 32 (now o) ⌝ }
     ensures is { λ _. ⌜ PlanesOf (wordsAt (now (z .exit))) (now (o .entry)) ⌝ }
     ensures long { λ _. ⌜ length (now (z .exit)) ≡ 64 ⌝ }
 {
-    copy(o, z, 32);
-    transpose_halves(&mut z[0..32], 1);
-    split(z);
+    transpose_halves(&mut o[0..32], 1);
+    split(o, z);
 }
 
-// The words of 64 figures of a ring, from their planes.
-pub fn rows_of(r: Ring, o: &[u64], z: &mut [u64])
+// The words of 64 figures of a ring, from their planes, which are used up.
+pub fn rows_of(r: Ring, o: &mut [u64], z: &mut [u64])
     requires planes { ⌜ length (now o) ≡ 64 ⌝ }
     requires room { ⌜ length (now z) ≡ 64 ⌝ }
     requires width { ⌜ NoneFrom (widthOf r) (now o) ⌝ }

@@ -11,10 +11,10 @@ use Rattle.planes.proofs.rows.copy.Statement.{statement}
 use Rattle.planes.proofs.rows.copy.Tie as tie
 
 abbrev Inv-loop : tie.InvT-loop
-Inv-loop o z₀ n k₀ z k = (k ≤ n) × (length z ≡ length z₀) × Copied k o z
+Inv-loop o z₀ k₀ z k = (k ≤ 64) × (length z ≡ 64) × Copied k o z
 
 abbrev μ-loop : tie.MeasureT-loop
-μ-loop o z₀ n k₀ z k = n - k
+μ-loop o z₀ k₀ z k = 64 - k
 
 again : tie.Need-loop-again Inv-loop μ-loop
 again c =
@@ -27,11 +27,11 @@ again c =
 
 returns : tie.Need-returns Inv-loop μ-loop
 returns c =
-    let same : c .before .loop .k ≡ c .before .before .args .n = omega arith in
+    let same : c .before .loop .k ≡ 64 = omega arith in
     (rw same at (c .before .loop .inv .2), c .before .loop .inv .1)
 
 pub copy-spec : {M : Type 1} → statement M
 copy-spec =
     tie.close
-    (tie.spec Inv-loop μ-loop (λ c. (omega arith, refl, record { at = below-none _ })) (λ c. search needs) (λ c. search needs)
+    (tie.spec Inv-loop μ-loop (λ c. (omega arith, c .pre .1, record { at = below-none _ })) (λ c. search needs) (λ c. search needs)
     (λ c. search needs) (λ c. search needs) (λ c. search needs) (λ c. search needs) again (λ c. search needs) returns)
