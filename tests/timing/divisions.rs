@@ -29,6 +29,9 @@ pub fn divisions(file: &Path) -> Vec<String> {
     found
 }
 
+/// C's functions that the compiler uses to fill and copy arrays of fixed length. What they execute is in the traces.
+const OF_C: [&str; 2] = ["memcpy", "memset"];
+
 /// What is not in an archive but left to others, of whose code nothing is known; the library's three functions must be there.
 pub fn undefined(archive: &Path) -> Vec<String> {
     let names = |which: &str| -> BTreeSet<String> {
@@ -40,7 +43,8 @@ pub fn undefined(archive: &Path) -> Vec<String> {
     let missing = used
         .iter()
         .chain(&called)
-        .filter(|name| !defined.contains(*name) && !name.ends_with(':'));
+        .filter(|name| !defined.contains(*name) && !name.ends_with(':'))
+        .filter(|name| !OF_C.contains(&name.as_str()));
     missing
         .map(|name| format!("not in the archive: {name}"))
         .collect()

@@ -6,3 +6,4 @@ pub mod SeenLaw
 pub mod RefusalLaw
 pub mod Theorems
 pub mod Secrecy
+pub mod Example
