@@ -4,7 +4,7 @@ use mathlib.Core.List.{List, [], _∷_, _++_, append-assoc}
 use mathlib.Core.Path.{_≡_, ap, ap₂, refl, sym, _∙_}
 use native.Mathlib.Omega.{arith}
 use lib.Bits.{bitXor}
-use lib.ListN.{length, length-append}
+use lib.ListN.{getD, getD-replicate, length, length-append, replicate}
 use Rattle.ring.specs.Rings.{bitOf, modulus}
 use Rattle.gate.specs.Places.{Place}
 use Rattle.gate.specs.declared.sharing.Sharing.{Sharing}
@@ -129,3 +129,11 @@ laned e l a₀ a₁ a₂ z₀ z₁ z₂ from work to = record {
 
 pub none-wider : (l e : ℕ) (o : List ℕ) → l ≤ e → NoPlanes l o → NoPlanes e o
 none-wider l e o wider none = record { at = λ j from h. none .at j (omega arith) h }
+
+pub zeros-none : (e : ℕ) → NoPlanes e (replicate 192 0)
+zeros-none e = record {
+  at = λ j from h.
+      let o : List ℕ = replicate 192 0 in
+      let none : (i : ℕ) → i < 192 → getD o i 0 ≡ 0 = λ i inside. getD-replicate {A = ℕ} 192 i 0 0 inside in
+      rw (none j (omega arith), none (64 + j) (omega arith), none (128 + j) (omega arith));
+}

@@ -64,27 +64,20 @@ module _ (low high : ℕ) (small : low < 2 ^ 32) where
 pub pair-shifted : {high : ℕ} → high < 2 ^ 32 → (high * 2 ^ 32) % 2 ^ 64 ≡ high * 2 ^ 32
 pair-shifted small = shl-exact 32 32 64 small (omega arith)
 
--- the first n rows hold two words each, and those 32 further hold none
+-- the first n rows hold two words each, and those from 32 on hold none
 pub record Paired (n : ℕ) (v : ℕ → ℕ) (y : List ℕ) : Type 0 where
   pub two : (k : ℕ) → k < n → getD y k 0 ≡ v k + v (32 + k) * 2 ^ 32
-  pub none : (k : ℕ) → k < n → getD y (32 + k) 0 ≡ 0
+  pub none : NoneFrom 32 y
 
-pub none-paired : (v : ℕ → ℕ) (y : List ℕ) → Paired 0 v y
-none-paired v y = record { two = below-none _; none = below-none _ }
+pub none-paired : (v : ℕ → ℕ) (y : List ℕ) → NoneFrom 32 y → Paired 0 v y
+none-paired v y none = record { two = below-none _; none = none }
 
 pub paired-more : (y : List ℕ) (k w : ℕ) (v : ℕ → ℕ) → k < 32 → length y ≡ 64 → Paired k v y → w ≡ v k + v (32 + k) * 2 ^ 32
-    → Paired (k + 1) v (set (set y k w) (32 + k) 0)
+    → Paired (k + 1) v (set y k w)
 paired-more y k w v inside long done e =
-    let first : List ℕ = set y k w in
-    let same : length first ≡ 64 = length-set y k w ∙ long in
     record {
-      two = λ i h.
-          getD-set-other first (32 + k) i 0 0 (λ same. omega arith)
-          ∙ row-more y k w (λ i. v i + v (32 + i) * 2 ^ 32) (omega arith) (done .two) e i h;
-      none = below-more (λ i. getD (set first (32 + k) 0) (32 + i) 0 ≡ 0) k
-          (λ i h. getD-set-other first (32 + k) (32 + i) 0 0 (λ same. omega arith)
-          ∙ getD-set-other y k (32 + i) w 0 (λ same. omega arith) ∙ done .none i h)
-          (getD-set-same first (32 + k) 0 0 (omega arith));
+      two = row-more y k w (λ i. v i + v (32 + i) * 2 ^ 32) (omega arith) (done .two) e;
+      none = record { at = λ j from h. getD-set-other y k j w 0 (λ same. omega arith) ∙ done .none .at j from h };
     }
 
 -- a bit of a row once the halves are transposed: column 32 u + c of row j was column 32 u + j of row c
@@ -107,7 +100,7 @@ module _ (v : ℕ → ℕ) (y ys : List ℕ) (small : (k : ℕ) → k < 64 → v
 
   none-above : (j k : ℕ) → j < 32 → bitOf (getD back (32 + j) 0) k ≡ 0
   none-above j k h =
-      ap (λ (w : ℕ). bitOf w k) (put-after 0 32 y ys zero-le (omega arith) part j ∙ rows .none j h) ∙ bit-none k
+      ap (λ (w : ℕ). bitOf w k) (put-after 0 32 y ys zero-le (omega arith) part j ∙ rows .none .at (32 + j) (omega arith) (omega arith)) ∙ bit-none k
 
   bits-from : (k : ℕ) → k < 64 → ((j : ℕ) → j < 32 → bitOf (getD ys j 0) k ≡ bitOf (v k) j)
       → (j : ℕ) → j < 64 → bitOf (getD back j 0) k ≡ bitOf (v k) j

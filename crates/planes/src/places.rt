@@ -34,11 +34,12 @@ pub fn store_planes(q: &mut [u64], j: usize, w: Sharing)
     q[128 + j] = w.s2;
 }
 
-// The planes of x = 4 a modulo p.
+// The planes of x = 4 a modulo p, into a run whose planes from 32 on are 0.
 pub fn load(r: Ring, a0: &[u64], a1: &[u64], a2: &[u64], x: &mut [u64])
     requires lengths { ⌜ (length (now a0) ≡ 64) × (length (now a1) ≡ 64) × (length (now a2) ≡ 64) ⌝ }
     requires room { ⌜ length (now x) ≡ 192 ⌝ }
     requires source { ⌜ ItemsBelow (modulusOf r) 64 (now a0) (now a1) (now a2) ⌝ }
+    requires empty { ⌜ NoPlanes 32 (now x) ⌝ }
     ensures { λ _. ⌜ Loaded (λ k. fourTimes (modulusOf r) (itemsAt k (now (a0 .entry)) (now (a1 .entry)) (now (a2 .entry)))) (now (x .exit)) ⌝ }
 {
     planes_of(r, a0, &mut x[0..64]);

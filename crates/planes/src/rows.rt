@@ -25,12 +25,13 @@ fn wide_planes(r: Ring, a: &[u64], y: &mut [u64])
     transpose(y);
 }
 
-// The same, two figures a row.
+// The same, two figures a row. Planes from 32 on are 0 already: the ring has no such bit.
 fn narrow_planes(r: Ring, a: &[u64], y: &mut [u64])
     requires width { ⌜ widthOf r ≤ 32 ⌝ }
     requires words { ⌜ length (now a) ≡ 64 ⌝ }
     requires room { ⌜ length (now y) ≡ 64 ⌝ }
     requires source { ⌜ AllBelow (modulusOf r) (now a) ⌝ }
+    requires empty { ⌜ NoneFrom 32 (now y) ⌝ }
     ensures { λ _. ⌜ PlanesOf (fourTimesAt (modulusOf r) (now (a .entry))) (now (y .exit)) ⌝ }
 {
     let mut k = 0;
@@ -38,17 +39,17 @@ fn narrow_planes(r: Ring, a: &[u64], y: &mut [u64])
         let low = r.four_times(a[k]);
         let high = r.four_times(a[32 + k]);
         y[k] = low + (high << 32);
-        y[32 + k] = 0;
         k += 1;
     }
     transpose_halves(&mut y[0..32], 1);
 }
 
-// The planes of x = 4 a modulo p.
+// The planes of x = 4 a modulo p, into a part whose words from 32 on are 0.
 pub fn planes_of(r: Ring, a: &[u64], y: &mut [u64])
     requires words { ⌜ length (now a) ≡ 64 ⌝ }
     requires room { ⌜ length (now y) ≡ 64 ⌝ }
     requires source { ⌜ AllBelow (modulusOf r) (now a) ⌝ }
+    requires empty { ⌜ NoneFrom 32 (now y) ⌝ }
     ensures { λ _. ⌜ PlanesOf (fourTimesAt (modulusOf r) (now (a .entry))) (now (y .exit)) ⌝ }
 {
     match r {

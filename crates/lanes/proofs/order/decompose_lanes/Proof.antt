@@ -2,9 +2,14 @@ use native.Mathlib.Omega.{arith}
 use borrow.Author.Needs.{needs}
 use Rattle.ring.specs.Rings.{widthOf}
 use Rattle.ring.proofs.RangeLaw.{width-le}
-use Rattle.lanes.proofs.OrderLaw.{laned, none-wider}
+use Rattle.lanes.proofs.OrderLaw.{laned, none-wider, zeros-none}
 use Rattle.lanes.proofs.order.decompose_lanes.Statement.{statement}
 use Rattle.lanes.proofs.order.decompose_lanes.Tie as tie
+
+loading : tie.Need-load-requires
+loading c κs =
+    let pre = c .before .before .before .before .before .before .before .before .before .before .before .before .before .pre in
+    (pre .1 .1 .1 .0, (search needs, (pre .1 .1 .1 .1 .1, zeros-none 32)))
 
 working : tie.Need-work-requires
 working c κs =
@@ -33,5 +38,5 @@ returns c =
 pub decompose-lanes-spec : {M : Type 1} → statement M
 decompose-lanes-spec =
     tie.close
-    (tie.spec (λ c. search needs) (λ c κs. search needs) (λ c. search needs) working (λ c. search needs) unloading
+    (tie.spec (λ c. search needs) loading (λ c. search needs) working (λ c. search needs) unloading
     (λ c. search needs) (λ c. search needs) (λ c. search needs) (λ c. search needs) (λ c. search needs) (λ c. search needs) returns)

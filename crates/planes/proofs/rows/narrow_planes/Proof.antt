@@ -18,10 +18,10 @@ abbrev μ-loop : tie.MeasureT-loop
 μ-loop r a y₀ k₀ y k = 32 - k
 
 first : tie.Need-four-times-requires Inv-loop μ-loop
-first c κs = c .before .before .before .before .before .pre .1 .1 .1 .at (c .before .before .loop .k) (omega arith)
+first c κs = c .before .before .before .before .before .pre .1 .1 .1 .0 .at (c .before .before .loop .k) (omega arith)
 
 second : tie.Need-four-times-requires-2 Inv-loop μ-loop
-second c κs = c .before .before .before .before .before .before .before .pre .1 .1 .1 .at (32 + c .before .before .before .before .loop .k) (omega arith)
+second c κs = c .before .before .before .before .before .before .before .pre .1 .1 .1 .0 .at (32 + c .before .before .before .before .loop .k) (omega arith)
 
 -- both halves are below 2^32
 smalls : (c : tie.After-four-times2 Inv-loop μ-loop) → (c .before .before .four-times .result < 2 ^ 32) × (c .four-times2 .result < 2 ^ 32)
@@ -61,7 +61,7 @@ returns c =
 pub narrow-planes-spec : {M : Type 1} → statement M
 narrow-planes-spec =
     tie.close
-    (tie.spec Inv-loop μ-loop (λ c. (omega arith, c .before .before .pre .1 .1 .0, none-paired _ _)) (λ c. search needs) (λ c. search needs)
+    (tie.spec Inv-loop μ-loop (λ c. (omega arith, c .before .before .pre .1 .1 .0, none-paired _ _ (c .before .before .pre .1 .1 .1 .1))) (λ c. search needs) (λ c. search needs)
     first (λ c. search needs) (λ c. search needs) (λ c. search needs) second sum (λ c. search needs) (λ c. search needs) (λ c. search needs)
-    (λ c. search needs) (λ c. simp length-set (omega arith)) (λ c. search needs) (λ c. search needs) again
+    (λ c. search needs) again
     (λ c. search needs) (λ c. search needs) (λ c. search needs) (λ c κs. search needs) (λ c. search needs) returns)

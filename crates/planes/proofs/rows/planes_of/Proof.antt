@@ -6,12 +6,12 @@ use Rattle.planes.proofs.rows.planes_of.Tie as tie
 of-13 : tie.Need-narrow-planes-requires
 of-13 c κs =
     let pre = c .before .before .before .before .before .pre in
-    (rw (c .before .enum-told .given .1) (omega arith), (pre .0, (pre .1 .0, pre .1 .1)))
+    (rw (c .before .enum-told .given .1) (omega arith), (pre .0, (pre .1 .0, (pre .1 .1 .0, pre .1 .1 .1))))
 
 of-31 : tie.Need-narrow-planes-requires-2
 of-31 c κs =
     let pre = c .before .before .before .before .before .pre in
-    (rw (c .before .enum-told2 .given .1) (omega arith), (pre .0, (pre .1 .0, pre .1 .1)))
+    (rw (c .before .enum-told2 .given .1) (omega arith), (pre .0, (pre .1 .0, (pre .1 .1 .0, pre .1 .1 .1))))
 
 pub planes-of-spec : {M : Type 1} → statement M
 planes-of-spec =
