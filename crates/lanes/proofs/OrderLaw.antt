@@ -1,7 +1,9 @@
 -- The stages one after another, the planes of the result, and the whole order for each figure.
 use Prim.Native.Nat.{ℕ, _+_, _*_, _-_, _/_, _<_, _≤_}
 use mathlib.Core.List.{List, [], _∷_, _++_, append-assoc}
+use mathlib.Core.Logic.{⊎-elim}
 use mathlib.Core.Path.{_≡_, ap, ap₂, refl, sym, _∙_}
+use native.Mathlib.Nat.{eq-zero-or-pos}
 use native.Mathlib.Omega.{arith}
 use lib.Bits.{bitXor}
 use lib.ListN.{getD, getD-replicate, length, length-append, replicate}
@@ -69,10 +71,12 @@ module _ (l : ℕ) (x q r a o : List ℕ) (small : l < 60)
     upper-is l (total .s2) (columns l a k .s2) (λ j h. ap (λ (w : Sharing). w .s2) (bits j h)),
   )
 
-pub cleared : {n j : ℕ} {before after : List ℕ} → n ≤ 64 → 64 ≤ j → ClearedTo n j before after → Cleared n before after
-cleared small all so-far = record {
+pub cleared : {n e j : ℕ} {before after : List ℕ} → n ≤ 64 → e ≤ j → NoPlanes e after → ClearedTo n j before after → Cleared n before after
+cleared {j = j} small all above so-far = record {
   stand = λ i h. so-far .stand i h (omega arith);
-  none = record { at = λ i from h. so-far .none i from (omega arith) h };
+  none = record {
+    at = λ i from h. ⊎-elim (λ far. above .at i (omega arith) h) (λ near. so-far .none i from (omega arith) h) (eq-zero-or-pos (j - i));
+  };
 }
 
 -- the two stages after others, with the planes a₀ of the first carry and a of all

@@ -15,7 +15,7 @@ use Rattle.circuit.proofs.BitsLaw.{bit-none}
 use Rattle.decompose.specs.Turns.{majorityWords}
 use Rattle.decompose.specs.Words.{bitsAt, bitsXor, digitsOf, stored, totalled}
 use Rattle.decompose.proofs.GateLaw.{atOne, atTwo, atZero, carry-turned, raising-turned, running-turned, zero-turned}
-use Rattle.planes.specs.Planes.{GateWords, MajorityWords, columns, planesAt, withPlanes, wordsXor}
+use Rattle.planes.specs.Planes.{GateWords, MajorityWords, NoPlanes, columns, planesAt, withPlanes, wordsXor}
 use Rattle.planes.proofs.PlaceLaw.{column-bits, column-more, other-planes, stored-planes}
 use Rattle.planes.proofs.WordLaw.{bits-xor}
 use Rattle.lanes.specs.Stages.{Raising, Running, SentAt, Totals, Went, Zeroed, carried, raised, summed, totalPlanes}
@@ -299,6 +299,13 @@ rising-all {n = n} x q r a₀ s o o′ carry b few planes totals b-is o-is all =
     }
 
 -- ---- planes cleared
+
+-- planes stored below e leave none from e on
+pub none-kept : {e j : ℕ} {o′ : List ℕ} (o : List ℕ) (w : Sharing) → j < e → j < 64 → length o ≡ 192 → o′ ≡ withPlanes o j w
+    → NoPlanes e o → NoPlanes e o′
+none-kept {j = j} o w below inside long is none = record {
+  at = λ i from h. ap (planesAt i) is ∙ other-planes o j w inside long i h (λ e. omega arith) ∙ none .at i from h;
+}
 
 -- j planes from n on
 pub record ClearedTo (n j : ℕ) (before after : List ℕ) : Type 0 where

@@ -6,7 +6,7 @@ ghost use lib.ListN.{length};
 ghost use Rattle.gate.specs.Lent.{atEntry, atExit};
 ghost use Rattle.circuit.specs.Decompose.{carryGate};
 ghost use Rattle.circuit.specs.Lent.{Long};
-ghost use Rattle.planes.specs.Planes.{planesAt};
+ghost use Rattle.planes.specs.Planes.{NoPlanes, planesAt};
 ghost use Rattle.lanes.specs.Stages.{Raising, Running, Totals, Went, Zeroed, carried, fresh};
 use crate::words::send_at;
 use crate::words::total_in;
@@ -129,7 +129,8 @@ pub fn zero_lanes(
     words_xor(words_xor(left, right), z)
 }
 
-// (iv) The carries of the increment from the first, which is given: n gates, and n + 1 planes of the result.
+// (iv) The carries of the increment from the first, which is given: n gates, and n + 1 planes of the result. Planes above
+// stand.
 pub fn raising_lanes(
     s: &[u64],
     first: Sharing,
@@ -150,6 +151,7 @@ pub fn raising_lanes(
     requires out { ⌜ length (now o) ≡ 192 ⌝ }
     ensures is { λ _. ⌜ ((x q r a₀ : List ℕ) → Totals (n + 3) x q r (now (s .entry)) → length a₀ ≡ 192 → first ≡ planesAt 0 a₀
         → Raising at n x q r a₀ (now (o .exit)) (atEntry m0 m1 m2) (atEntry c0 c1 c2) (atExit c0 c1 c2)) ⌝ }
+    ensures none { λ _. ⌜ ((e : ℕ) → n < e → NoPlanes e (now (o .entry)) → NoPlanes e (now (o .exit))) ⌝ }
 {
     let mut carry = first;
     let mut j = 0;

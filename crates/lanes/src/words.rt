@@ -3,7 +3,7 @@ ghost use mathlib.Core.Path.{_≡_};
 ghost use Prim.Native.Nat.{_+_, _<_, _≤_};
 ghost use lib.ListN.{length};
 ghost use Rattle.circuit.specs.Lent.{Long};
-ghost use Rattle.planes.specs.Planes.{planesAt, withPlanes, wordsXor};
+ghost use Rattle.planes.specs.Planes.{NoPlanes, planesAt, withPlanes, wordsXor};
 ghost use Rattle.lanes.specs.Stages.{Cleared, SentAt};
 use circuit::zeros;
 use gate::Sharing;
@@ -33,15 +33,16 @@ pub fn total_in(x: &[u64], s: &mut [u64], j: usize, last: Sharing)
     store_planes(s, j, words_xor(words_xor(b, u), last));
 }
 
-// Planes from n on become 0.
-pub fn clear_planes(o: &mut [u64], n: usize)
-    requires count { ⌜ n ≤ 64 ⌝ }
+// Planes from n on become 0, of which those from e on are 0 already.
+pub fn clear_planes(o: &mut [u64], n: usize, e: usize)
+    requires count { ⌜ (n ≤ 64) × (e ≤ 64) ⌝ }
     requires room { ⌜ length (now o) ≡ 192 ⌝ }
+    requires none { ⌜ NoPlanes e (now o) ⌝ }
     ensures is { λ _. ⌜ Cleared n (now (o .entry)) (now (o .exit)) ⌝ }
     ensures long { λ _. ⌜ length (now (o .exit)) ≡ 192 ⌝ }
 {
     let mut j = n;
-    while j < 64 {
+    while j < e {
         store_planes(o, j, zeros());
         j += 1;
     }

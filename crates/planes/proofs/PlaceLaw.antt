@@ -1,8 +1,8 @@
 -- Three places in one run: planes loaded and unloaded place by place, stored, and read as figures' words.
-use Prim.Native.Nat.{ℕ, zero-le, _+_, _-_, _<_, _≤_}
+use Prim.Native.Nat.{ℕ, zero-le, _+_, _-_, _<_, _≤_, _^_}
 use mathlib.Core.List.{List}
 use mathlib.Core.Path.{_≡_, ap, refl, sym, _∙_}
-use native.Mathlib.Nat.{zero-add}
+use native.Mathlib.Nat.{mod-eq-of-lt, zero-add}
 use native.Mathlib.Numerals.{add-one}
 use native.Mathlib.Omega.{arith}
 use borrow.Rule.Slice.PartMut.{midOf, putMid}
@@ -12,9 +12,10 @@ use Rattle.ring.specs.Rings.{bitOf}
 use Rattle.gate.specs.declared.sharing.Sharing.{Sharing}
 use Rattle.circuit.specs.Bits.{gather}
 use Rattle.circuit.specs.Sharings.{zeros}
-use Rattle.circuit.proofs.BitsLaw.{bit-lt, bit-none, gather-at, gather-ends, gather-same}
+use Rattle.circuit.proofs.BitsLaw.{bit-lt, bit-none, gather-at, gather-bits, gather-ends, gather-same}
 use Rattle.decompose.specs.Words.{bitsAt, stored}
 use Rattle.planes.specs.Planes.{Loaded, NoPlanes, NoneFrom, PlanesOf, columns, planesAt, withPlanes}
+use Rattle.planes.proofs.CellLaw.{bit-above}
 use Rattle.planes.proofs.PartLaw.{mid-at, put-at, put-before}
 
 -- the same planes make the same words
@@ -66,6 +67,28 @@ column-bits n q k j below = rw (
   gather-at n (λ i. bitOf (getD q (64 + i) 0) k) (λ i. bit-lt (getD q (64 + i) 0) k) j below,
   gather-at n (λ i. bitOf (getD q (128 + i) 0) k) (λ i. bit-lt (getD q (128 + i) 0) k) j below,
 )
+
+-- a word without a bit is 0
+no-bits : (w : ℕ) → w < 2 ^ 64 → ((k : ℕ) → k < 64 → bitOf w k ≡ 0) → w ≡ 0
+unfolding gather
+no-bits w small none = sym (gather-bits 64 w ∙ mod-eq-of-lt small) ∙ gather-ends 0 64 (bitOf w) (λ k from h. none k h)
+
+-- figures below 2^e have no planes from e on
+pub loaded-none : (e : ℕ) (v : ℕ → Sharing) (x : List ℕ) → ((k : ℕ) → (v k .s0 < 2 ^ e) × (v k .s1 < 2 ^ e) × (v k .s2 < 2 ^ e))
+    → ((i : ℕ) → getD x i 0 < 2 ^ 64) → Loaded v x → NoPlanes e x
+loaded-none e v x small words all = record {
+  at = λ j from h.
+      let bits : (k : ℕ) → k < 64 → bitsAt (planesAt j x) k ≡ bitsAt (v k) j
+      = λ k inside. sym (column-bits 64 x k j h) ∙ ap (λ (w : Sharing). bitsAt w j) (all .at k inside) in
+      rw (
+        no-bits (getD x j 0) (words j)
+            (λ k inside. ap (λ (w : Sharing). w .s0) (bits k inside) ∙ bit-above e (v k .s0) j (small k .0) from),
+        no-bits (getD x (64 + j) 0) (words (64 + j))
+            (λ k inside. ap (λ (w : Sharing). w .s1) (bits k inside) ∙ bit-above e (v k .s1) j (small k .1) from),
+        no-bits (getD x (128 + j) 0) (words (128 + j))
+            (λ k inside. ap (λ (w : Sharing). w .s2) (bits k inside) ∙ bit-above e (v k .s2) j (small k .2) from),
+      );
+}
 
 -- with planes stored at n, those at other places stand
 module _ (q : List ℕ) (n : ℕ) (w : Sharing) (below : n < 64) (long : length q ≡ 192) where

@@ -212,10 +212,12 @@ four-times-lt r a k =
     let some : 0 < modulusOf r = omega (arith, sized-gt (sized r refl refl)) in
     omega (arith, mod-lt (4 * getD a k 0) some, sized-lt (sized r refl refl))
 
--- and where the ring has at most 32 bits
-pub narrow-lt : (r : Ring) (a : List ℕ) (k : ℕ) → widthOf r ≤ 32 → fourTimesAt (modulusOf r) a k < 2 ^ 32
+-- it has the ring's width, and so at most 32 bits where the ring has
+pub width-lt : (r : Ring) (a : List ℕ) (k : ℕ) → fourTimesAt (modulusOf r) a k < 2 ^ widthOf r
 unfolding modulus
-narrow-lt r a k narrow =
-    let room : 2 ^ widthOf r ≤ 2 ^ 32 = pow-mono {j = 32} narrow in
+width-lt r a k =
     let some : 0 < modulusOf r = omega (arith, sized-gt (sized r refl refl)) in
     omega (arith, mod-lt (4 * getD a k 0) some)
+
+pub narrow-lt : (r : Ring) (a : List ℕ) (k : ℕ) → widthOf r ≤ 32 → fourTimesAt (modulusOf r) a k < 2 ^ 32
+narrow-lt r a k narrow = omega (arith, width-lt r a k, pow-mono {j = 32} narrow)

@@ -40,7 +40,8 @@ pub fn load(r: Ring, a0: &[u64], a1: &[u64], a2: &[u64], x: &mut [u64])
     requires room { ⌜ length (now x) ≡ 192 ⌝ }
     requires source { ⌜ ItemsBelow (modulusOf r) 64 (now a0) (now a1) (now a2) ⌝ }
     requires empty { ⌜ NoPlanes 32 (now x) ⌝ }
-    ensures { λ _. ⌜ Loaded (λ k. fourTimes (modulusOf r) (itemsAt k (now (a0 .entry)) (now (a1 .entry)) (now (a2 .entry)))) (now (x .exit)) ⌝ }
+    ensures is { λ _. ⌜ Loaded (λ k. fourTimes (modulusOf r) (itemsAt k (now (a0 .entry)) (now (a1 .entry)) (now (a2 .entry)))) (now (x .exit)) ⌝ }
+    ensures none { λ _. ⌜ NoPlanes (widthOf r) (now (x .exit)) ⌝ }
 {
     planes_of(r, a0, &mut x[0..64]);
     planes_of(r, a1, &mut x[64..128]);

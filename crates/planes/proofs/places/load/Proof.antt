@@ -6,10 +6,11 @@ use native.Mathlib.Omega.{arith}
 use borrow.Author.Needs.{needs}
 use borrow.Rule.Slice.PartMut.{mid-len, midOf, putMid}
 use lib.ListN.{length}
-use Rattle.ring.specs.Rings.{modulusOf}
+use Rattle.ring.specs.Rings.{modulusOf, widthOf}
 use Rattle.planes.specs.Planes.{fourTimesAt}
 use Rattle.planes.proofs.PartLaw.{mid-put}
-use Rattle.planes.proofs.PlaceLaw.{loaded, none-0, none-1, none-2}
+use Rattle.planes.proofs.PlaceLaw.{loaded, loaded-none, none-0, none-1, none-2}
+use Rattle.planes.proofs.RowLaw.{width-lt}
 use Rattle.planes.proofs.places.load.Statement.{statement}
 use Rattle.planes.proofs.places.load.Tie as tie
 
@@ -73,12 +74,18 @@ returns c =
     let back = c .before .before .before .before .before in
     let third = c .before .before .planes-of3 in
     let arg = start (once back) .args in
-    let p = modulusOf (arg .r) in
+    let v : List ℕ → ℕ → ℕ = fourTimesAt (modulusOf (arg .r)) in
     let long : length (run-2 back) ≡ 192 = back .x2 .given .1 ∙ run-long (once back) in
-    loaded (fourTimesAt p (arg .a0 .now)) (fourTimesAt p (arg .a1 .now)) (fourTimesAt p (arg .a2 .now)) (arg .x .now)
+    let all
+    = loaded (v (arg .a0 .now)) (v (arg .a1 .now)) (v (arg .a2 .now)) (arg .x .now)
     (first (once back)) (second back) (third .last .1 .1 .0) (first-long (once back)) (second-long back)
     (c .before .x3 .given .0 ∙ mid-len 128 192 (run-2 back) (omega (arith, long))) (omega (arith, run-long (once back))) (omega (arith, long))
-    (once back .before .planes-of .ensures) (back .before .planes-of2 .ensures) (third .ensures)
+    (once back .before .planes-of .ensures) (back .before .planes-of2 .ensures) (third .ensures) in (
+      all,
+      loaded-none (widthOf (arg .r)) _ _
+          (λ k. (width-lt (arg .r) (arg .a0 .now) k, width-lt (arg .r) (arg .a1 .now) k, width-lt (arg .r) (arg .a2 .now) k))
+          (λ i. omega (arith, c .slice-known4 .given i)) all,
+    )
 
 pub load-spec : {M : Type 1} → statement M
 load-spec =
