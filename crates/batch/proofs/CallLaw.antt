@@ -1,8 +1,8 @@
 -- A call by its refusal: what checks that pass say, and what it leaves.
 use Prim.Native.Nat.{ℕ, suc, _+_, _-_, _≤_}
-use mathlib.Core.Bool.{Bool, cond, false, not, true}
+use mathlib.Core.Bool.{Bool, cond, false, true}
 use mathlib.Core.List.{List}
-use mathlib.Core.Path.{_≡_, refl, sym, _∙_}
+use mathlib.Core.Path.{_≡_, refl, sym}
 use native.Mathlib.Omega.{arith}
 use borrow.Author.Tests.{eqb-true, leb-true, ltb-false, not-false}
 use lib.Dec.{eqb, eqb·suc-zero, leb}
@@ -21,7 +21,7 @@ use Rattle.lanes.specs.Lanes.{count}
 use Rattle.batch.specs.Batch.{batch, checks, figureChecks, lengths, lengthsOf, outcome, performed}
 
 -- what checks 7, 10, 8, 9 and 11 say where none is met
-pub record Fine (e l : ℕ) (a T c : Place → List ℕ) : Type 0 where
+pub record Accepted (e l : ℕ) (a T c : Place → List ℕ) : Type 0 where
   pub least : 1 ≤ l
   pub most : l ≤ e - 2
   pub sources : anyBad (replicate count (modulus e)) a ≡ false
@@ -34,7 +34,7 @@ enough n t same long =
     let as-first = even (lengths t) same .same in
     each (λ i. n ≤ length (t i)) long (omega (arith, as-first p1)) (omega (arith, as-first p2))
 
-pub fine : (e l : ℕ) (a T c : Place → List ℕ) → firstMet (figureChecks e l a (lengthsOf T c)) ≡ 0 → Fine e l a T c
+pub fine : (e l : ℕ) (a T c : Place → List ℕ) → firstMet (figureChecks e l a (lengthsOf T c)) ≡ 0 → Accepted e l a T c
 fine e l a T c h =
     let n = gatesOf (decomposition e l) in
     let all = passed (figureChecks e l a (lengthsOf T c)) refl h in
@@ -66,6 +66,6 @@ module _ (e l : ℕ) (a T c z : Place → List ℕ) where
   unfolding batch
   declined-is n h = rw (h, eqb·suc-zero n)
 
-  pub accepted : firstMet (checks e l a T c z) ≡ 0 → Fine e l a T c
+  pub accepted : firstMet (checks e l a T c z) ≡ 0 → Accepted e l a T c
   unfolding checks
   accepted h = fine e l a T c (unmet-rest _ 5 _ refl (unmet-rest _ 23 _ refl h))

@@ -1,7 +1,7 @@
 -- What the code answers is what the definition leaves.
-use Prim.Native.Nat.{ℕ, _+_, _*_, _-_, _<_, _≤_, _^_}
+use Prim.Native.Nat.{ℕ, _+_, _*_, _-_, _<_, _≤_}
 use mathlib.Core.Bool.{Bool, cond, false, not, true, _&&_, _||_}
-use mathlib.Core.List.{List, _∷_, _++_}
+use mathlib.Core.List.{List, _++_}
 use mathlib.Core.Path.{_≡_, ap, ap₂, refl, sym, _∙_}
 use native.Mathlib.Omega.{arith}
 use borrow.Author.Tests.{eqb-true, leb-true, not-false}
@@ -13,11 +13,10 @@ use Rattle.ring.specs.declared.rings.OfWidth.the-variants.{Named, NoRing}
 use Rattle.ring.specs.declared.rings.Ring.{Ring}
 use Rattle.ring.specs.declared.rings.Ring.the-variants.{R13, R31, R61}
 use Rattle.ring.proofs.RangeLaw.{width-ge}
-use Rattle.gate.specs.Places.{Place, p0, p1, p2, parts, tabled, three}
+use Rattle.gate.specs.Places.{Place, p0, p1, p2, tabled, three}
 use Rattle.circuit.specs.Circuits.{Circuit, channelled, gatesOf, result}
 use Rattle.circuit.specs.Lent.{ItemsBelow, Long}
 use Rattle.circuit.specs.Orders.{decomposition}
-use Rattle.circuit.specs.Sharings.{itemsAt}
 use Rattle.value.proofs.Counts.{decompose-count}
 use Rattle.machine.specs.Checks.{Lengths, anyBad, firstMet, gateChecks, noRing}
 use Rattle.machine.specs.declared.answers.Answer.the-variants.{Done, Refused}
@@ -26,7 +25,7 @@ use Rattle.machine.specs.declared.answers.Refusal.the-variants as refusal
 use Rattle.machine.specs.declared.answers.Refusal.the-variants.{NotSixtyFour}
 use Rattle.order.specs.Answers.{numberOf, verdictOf}
 use Rattle.order.specs.declared.answers.Verdict.{Verdict}
-use Rattle.order.specs.declared.answers.Verdict.the-variants.{Because, Fine}
+use Rattle.order.specs.declared.answers.Verdict.the-variants.{Fine}
 use Rattle.machine.proofs.KindLaw.{left-true, right-true}
 use Rattle.order.proofs.CheckLaw.{met, passed}
 use Rattle.order.proofs.VerdictLaw.{numbered}

@@ -1,10 +1,10 @@
 -- The secrecy of a batch holds of figures that are decomposed (specs/Example.antt).
 use Prim.Native.Nat.{ℕ, _<_}
-use mathlib.Core.Path.{_≡_, refl}
+use mathlib.Core.Path.{refl}
 use native.Mathlib.Omega.{arith}
 use lib.ListN.{getD, getD-replicate, replicate}
 use Rattle.ring.specs.Rings.{modulus, ringOf}
-use Rattle.gate.specs.Places.{p0, p1, p2}
+use Rattle.gate.specs.Places.{p1}
 use Rattle.gate.proofs.PlaceLaw.{each}
 use Rattle.circuit.specs.Circuits.{upto}
 use Rattle.circuit.specs.Decompose.{decomposeGates}
@@ -13,7 +13,6 @@ use Rattle.machine.specs.Checks.{anyBad, anyOutside, firstMet}
 use Rattle.lanes.specs.Lanes.{count}
 use Rattle.batch.specs.Batch.{batch, checks}
 use Rattle.batch.specs.Example.{Accepts, Applies, others, run, zeros}
-use Rattle.batch.specs.Secrecy.{InRange}
 use Rattle.batch.proofs.Secrecy.{batch-secret}
 
 pub accepts : Accepts

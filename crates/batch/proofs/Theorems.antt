@@ -22,7 +22,7 @@ figure-by-figure e l a T c z h k inside =
     let done = done-is e l a T c z unrefused in
     let gates = ap (λ (o : Outcome). o .gates) done in
     record {
-      result = λ i.
+      left = λ i.
           ap (λ (o : Outcome). getD (o .results i) k 0) done
           ∙ ap (λ (l : List ℕ). getD l k 0) (tabled-at (results C a T) i)
           ∙ getD-listed count (λ j. result C (figure a j) (figure a j) (lanes j T) i) k inside;

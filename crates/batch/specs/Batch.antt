@@ -1,4 +1,5 @@
--- 02, P13, "Sixty-four at a time": the call, for every width, l and content of the twelve runs.
+-- 02, P13, "Sixty-four at a time": the call, for every width e, every l and whatever the twelve runs hold: by place the sub-shares a,
+-- the mask tapes T, the channels c and the results z as they were.
 use Prim.Native.Nat.{ℕ, _-_}
 use mathlib.Core.Bool.{Bool, cond, not, _&&_, _||_}
 use mathlib.Core.List.{List, [], _∷_, _++_}
@@ -16,7 +17,7 @@ use Rattle.lanes.specs.Lanes.{count, results, wordsSent}
 abbrev pub notCount : (Place → ℕ) → Bool
 notCount n = not (eqb (n p0) count && (eqb (n p1) count && eqb (n p2) count))
 
--- "It has strands and wires of its own, used from their start, and touches no machine record"
+-- "It has strands and wires of its own, used from their start": positions 0, which is all that `gateChecks` looks at
 abbrev pub fromStart : Public
 fromStart = record { kinds = []; masksAt = 0; channelsAt = 0; dealerAt = 0 }
 
@@ -33,7 +34,7 @@ figureChecks e l a len =
     ∷ check (anyBad (replicate count (modulus e)) a) 10
     ∷ gateChecks (gatesOf (decomposition e l)) fromStart len
 
--- "It checks 5 (13 too), ..; 23 when one of the six runs isn't 64 long, before all of these"
+-- "It checks 5 (13 too), .. 23 when one of the six runs isn't 64 long, before all of these"
 unfoldable pub checks : (e l : ℕ) → (a T c z : Place → List ℕ) → List Check
 checks e l a T c z =
     check (notCount (lengths a) || notCount (lengths z)) 23

@@ -15,7 +15,7 @@ use Rattle.lanes.specs.Lanes.{count}
 pub record InRange (e : ℕ) (a : Place → List ℕ) : Type 0 where
   pub below : (i : Place) (k : ℕ) → k < count → getD (a i) k 0 < modulus e
 
--- "alike in U's two sub-shares": the third run has the same length
+-- "alike in U's two sub-shares"; the third run has the same length, which 23 would tell
 pub record Alike (U : Place) (a b : Place → List ℕ) : Type 0 where
   pub own : a U ≡ b U
   pub far : a (next U) ≡ b (next U)

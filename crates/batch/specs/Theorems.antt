@@ -11,7 +11,7 @@ use Rattle.lanes.specs.Lanes.{count, figure, lane, lanes}
 
 -- "For each k the result, wire bits and count, 3l + 1, are those of the single order's definition fed bit k of each item"
 pub record Figure (e l : ℕ) (a T c z : Place → List ℕ) (k : ℕ) : Type 0 where
-  pub result : (i : Place)
+  pub left : (i : Place)
       → getD (batch e l a T c z .results i) k 0 ≡ result (decomposition e l) (figure a k) (figure a k) (lanes k T) i
   pub bits : (i : Place)
       → lane k (batch e l a T c z .channels i)

@@ -1,8 +1,8 @@
 -- Words of 64 bits and their lanes: what the lanes say determines the words.
-use Prim.Native.Nat.{ℕ, zero, suc, _+_, _*_, _%_, _<_, _^_}
+use Prim.Native.Nat.{ℕ, zero, suc, _+_, _<_, _^_}
 use mathlib.Core.List.{List, [], _∷_, _++_, map-append}
 use mathlib.Core.Path.{_≡_, ap, ap₂, refl, sym, _∙_}
-use native.Mathlib.Nat.{mod-eq-of-lt, zero-div}
+use native.Mathlib.Nat.{mod-eq-of-lt}
 use native.Mathlib.Omega.{arith}
 use borrow.Author.Count.{below-more}
 use lib.ListN.{List·getD-append, List·getD-map, drop, getD, length, length-append, length-drop, length-map, take}

@@ -31,7 +31,8 @@ lanes k T = tabled (λ i. lane k (T i))
 unfoldable pub woven : ℕ → (ℕ → List ℕ) → List ℕ
 woven n f = listed n (λ g. gather count (λ k. getD (f k) g 0))
 
--- "figure k at place k": what the circuit leaves of figure k, "fed bit k of each item"
+-- "figure k at place k": what the circuit of an order with one source, which is given twice, leaves of figure k, "fed bit k of each
+-- item"
 unfoldable pub results : Circuit → (a T : Place → List ℕ) → Place → List ℕ
 results C a T i = listed count (λ k. result C (figure a k) (figure a k) (lanes k T) i)
 

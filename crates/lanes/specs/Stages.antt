@@ -98,4 +98,5 @@ pub record Worked (l : ℕ) (x o : List ℕ) (m c d : Place → List ℕ) : Type
 -- for each figure, the order ran on its sub-shares with its bits of the items
 pub record Laned (e l : ℕ) (a₀ a₁ a₂ : List ℕ) (m c : Place → List ℕ) (z₀ z₁ z₂ : List ℕ) (d : Place → List ℕ) : Type 0 where
   pub at : (k : ℕ) → k < 64
-      → Left (decomposition e l) (parts (itemsAt k a₀ a₁ a₂)) (parts (itemsAt k a₀ a₁ a₂)) (lanes k m) (lanes k c) (itemsAt k z₀ z₁ z₂) (lanes k d)
+      → Left (decomposition e l) (parts (itemsAt k a₀ a₁ a₂)) (parts (itemsAt k a₀ a₁ a₂))
+      (lanes k m) (lanes k c) (itemsAt k z₀ z₁ z₂) (lanes k d)

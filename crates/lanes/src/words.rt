@@ -25,7 +25,8 @@ pub fn send_at(c0: &mut [u64], c1: &mut [u64], c2: &mut [u64], at: usize, z: Sha
 pub fn total_in(x: &[u64], s: &mut [u64], j: usize, last: Sharing)
     requires from { ⌜ 128 + j < length (now x) ⌝ }
     requires to { ⌜ 128 + j < length (now s) ⌝ }
-    ensures is { λ _. ⌜ now (s .exit) ≡ withPlanes (now (s .entry)) j (wordsXor (wordsXor (planesAt j (now (x .entry))) (planesAt j (now (s .entry)))) last) ⌝ }
+    ensures is { λ _. ⌜ now (s .exit)
+        ≡ withPlanes (now (s .entry)) j (wordsXor (wordsXor (planesAt j (now (x .entry))) (planesAt j (now (s .entry)))) last) ⌝ }
     ensures long { λ _. ⌜ length (now (s .exit)) ≡ length (now (s .entry)) ⌝ }
 {
     let b = planes_at(x, j);

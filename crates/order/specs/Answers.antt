@@ -13,7 +13,7 @@ use Rattle.order.specs.declared.answers.Outcome.{Outcome}
 use Rattle.order.specs.declared.answers.Verdict.{Verdict}
 use Rattle.order.specs.declared.answers.Verdict.the-variants.{Because, Fine}
 
--- "1 record not sound; 2 a register number above 15" and so on
+-- "1 record not sound; 2 a register number above 15" and so on; 23 is 02's, P13
 abbrev pub numberOf : Refusal → ℕ
 numberOf Unsound = 1
 numberOf NoRegister = 2

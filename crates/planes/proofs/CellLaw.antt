@@ -33,7 +33,7 @@ unfolding bitOf
 bit-shr a h j = ap (λ (n : ℕ). n % 2) (shr-shr a h j ∙ ap (λ (n : ℕ). a / 2 ^ n) (add-comm h j))
 
 -- of what is left of a number in m bits
-pub bit-mod : (m n k : ℕ) → k < m → bitOf (n % 2 ^ m) k ≡ bitOf n k
+bit-mod : (m n k : ℕ) → k < m → bitOf (n % 2 ^ m) k ≡ bitOf n k
 unfolding bitOf
 bit-mod m n k inside =
     let j : ℕ = m - (k + 1) in

@@ -1,7 +1,7 @@
 -- Words of 64 figures and their planes: a figure a row, and two a row.
-use Prim.Native.Nat.{ℕ, zero-le, _+_, _*_, _/_, _%_, _<_, _≤_, _^_}
+use Prim.Native.Nat.{ℕ, zero-le, _+_, _*_, _-_, _/_, _%_, _<_, _≤_, _^_}
 use mathlib.Core.List.{List}
-use mathlib.Core.Path.{_≡_, ap, refl, sym, _∙_}
+use mathlib.Core.Path.{_≡_, ap, ap₂, refl, sym, _∙_}
 use native.Mathlib.Nat.{add-mul-div-right, div-eq-of-lt, mod-eq-of-lt, mod-lt, zero-add}
 use native.Mathlib.Omega.{arith}
 use borrow.Author.Count.{below-more, below-none}
@@ -17,7 +17,7 @@ use Rattle.circuit.specs.Bits.{gather}
 use Rattle.circuit.proofs.BitsLaw.{bit-none, gather-bits, gather-same, stored-low}
 use Rattle.planes.specs.Planes.{Copied, NoneFrom, PlanesOf, Split, fourTimesAt, wordsAt}
 use Rattle.planes.specs.Squares.{BlocksTransposed, Transposed, cell}
-use Rattle.planes.proofs.CellLaw.{bit-above, bit-mod, bit-shr}
+use Rattle.planes.proofs.CellLaw.{bit-above, bit-shr}
 use Rattle.planes.proofs.PartLaw.{mid-at, put-after, put-at}
 use Rattle.planes.proofs.TurnLaw.{block-at, halved}
 
@@ -49,16 +49,11 @@ row-more y k w v inside done e =
 
 -- ---- two figures a row: k below bit 32, and 32 + k from there on
 
-module _ (low high : ℕ) (small : low < 2 ^ 32) where
-  pub pair-low : (j : ℕ) → j < 32 → bitOf (low + high * 2 ^ 32) j ≡ bitOf low j
-  pair-low j h = stored-low 32 j low high h
-
-  pub pair-high : (j : ℕ) → bitOf (low + high * 2 ^ 32) (32 + j) ≡ bitOf high j
-  pair-high j =
-      let place : 32 + j ≡ j + 32 = omega arith in
-      let upper : (low + high * 2 ^ 32) / 2 ^ 32 ≡ high
-      = add-mul-div-right low high (pow-pos 32) ∙ ap (λ (n : ℕ). n + high) (div-eq-of-lt small) ∙ zero-add high in
-      ap (bitOf (low + high * 2 ^ 32)) place ∙ sym (bit-shr (low + high * 2 ^ 32) 32 j) ∙ ap (λ (w : ℕ). bitOf w j) upper
+pair-high : (low high : ℕ) → low < 2 ^ 32 → (j : ℕ) → bitOf (low + high * 2 ^ 32) (j + 32) ≡ bitOf high j
+pair-high low high small j =
+    let upper : (low + high * 2 ^ 32) / 2 ^ 32 ≡ high
+    = add-mul-div-right low high (pow-pos 32) ∙ ap (λ (n : ℕ). n + high) (div-eq-of-lt small) ∙ zero-add high in
+    sym (bit-shr (low + high * 2 ^ 32) 32 j) ∙ ap (λ (w : ℕ). bitOf w j) upper
 
 -- as the code puts it together
 pub pair-shifted : {high : ℕ} → high < 2 ^ 32 → (high * 2 ^ 32) % 2 ^ 64 ≡ high * 2 ^ 32
@@ -80,103 +75,60 @@ paired-more y k w v inside long done e =
       none = record { at = λ j from h. getD-set-other y k j w 0 (λ same. omega arith) ∙ done .none .at j from h };
     }
 
--- a bit of a row once the halves are transposed: column 32 u + c of row j was column 32 u + j of row c
-half-at : {before after : List ℕ} (u : ℕ) → BlocksTransposed 32 32 before after → u * 32 + 32 ≤ 64 → (j c : ℕ) → j < 32 → c < 32
-    → cell after j (u * 32 + c) ≡ cell before c (u * 32 + j)
-half-at u turned room j c hj hc =
-    block-at turned 0 u j c hj hc (omega arith) room (omega arith) refl (omega arith) refl
+-- rows of two words each, and planes: column 32 u + c of plane j is column 32 u + j of row c
+module _ (v : ℕ → ℕ) (rows planes : List ℕ) (small : (k : ℕ) → k < 64 → v k < 2 ^ 32)
+    (two : (c : ℕ) → c < 32 → getD rows c 0 ≡ v c + v (32 + c) * 2 ^ 32) (above : NoneFrom 32 planes)
+    (turned : (u j c : ℕ) → u * 32 + 32 ≤ 64 → j < 32 → c < 32 → cell planes j (u * 32 + c) ≡ cell rows c (u * 32 + j)) where
+  bit-at : (u j c k : ℕ) → u * 32 + 32 ≤ 64 → j < 32 → c < 32 → k ≡ u * 32 + c → {i : ℕ} → u * 32 + j ≡ i
+      → bitOf (v c + v (32 + c) * 2 ^ 32) i ≡ bitOf (v k) j → bitOf (getD planes j 0) k ≡ bitOf (v k) j
+  bit-at u j c k room hj hc at place same =
+      ap (bitOf (getD planes j 0)) at ∙ turned u j c room hj hc ∙ ap₂ bitOf (two c hc) place ∙ same
 
-module _ (v : ℕ → ℕ) (y ys : List ℕ) (small : (k : ℕ) → k < 64 → v k < 2 ^ 32) (long : length y ≡ 64) (part : length ys ≡ 32)
-    (rows : Paired 32 v y) (turned : BlocksTransposed 32 32 (midOf 0 32 y) ys) where
-  abbrev back : List ℕ
-  back = putMid 0 32 y ys
+  low-bits : (k j : ℕ) → k < 64 → j < 32 → bitOf (getD planes j 0) k ≡ bitOf (v k) j
+  low-bits k j inside h =
+      halved k 32 inside
+      (λ near. bit-at 0 j k k (omega arith) h near (omega arith) (omega arith) (stored-low 32 j (v k) (v (32 + k)) h))
+      (λ c at far. bit-at 1 j c k (omega arith) h far (omega arith) (omega arith)
+      (pair-high (v c) (v (32 + c)) (small c (omega arith)) j ∙ ap (λ (n : ℕ). bitOf (v n) j) (sym at)))
 
-  -- plane j is row j of the part, and from 32 on there is none
-  plane-at : (j : ℕ) → j < 32 → getD back j 0 ≡ getD ys j 0
-  plane-at j h = ap (λ (n : ℕ). getD back n 0) (sym (zero-add j)) ∙ put-at 0 32 y ys zero-le j (omega arith)
-
-  row-at : (c : ℕ) → c < 32 → getD (midOf 0 32 y) c 0 ≡ v c + v (32 + c) * 2 ^ 32
-  row-at c h = mid-at 0 32 y c h ∙ ap (λ (n : ℕ). getD y n 0) (zero-add c) ∙ rows .two c h
-
-  none-above : (j k : ℕ) → j < 32 → bitOf (getD back (32 + j) 0) k ≡ 0
-  none-above j k h =
-      ap (λ (w : ℕ). bitOf w k) (put-after 0 32 y ys zero-le (omega arith) part j ∙ rows .none .at (32 + j) (omega arith) (omega arith)) ∙ bit-none k
-
-  bits-from : (k : ℕ) → k < 64 → ((j : ℕ) → j < 32 → bitOf (getD ys j 0) k ≡ bitOf (v k) j)
-      → (j : ℕ) → j < 64 → bitOf (getD back j 0) k ≡ bitOf (v k) j
-  bits-from k inside low j h =
-      halved j 32 h
-      (λ near. ap (λ (w : ℕ). bitOf w k) (plane-at j near) ∙ low j near)
-      (λ i at far. rw at (none-above i k far ∙ sym (bit-above 32 (v k) (32 + i) (small k inside) (omega arith))))
-
-  pub halves-are : PlanesOf v back
-  halves-are = record {
+  paired-planes : PlanesOf v planes
+  paired-planes = record {
     at = λ k inside.
-        let wide : v k < 2 ^ 64 = omega (arith, small k inside) in
-        from-bits (v k) wide
-        (halved k 32 inside
-        (λ near. bits-from k inside (λ j h.
-        let start : 0 * 32 + k ≡ k = omega arith in
-        let row : 0 * 32 + j ≡ j = omega arith in
-        ap (bitOf (getD ys j 0)) (sym start) ∙ half-at 0 turned (omega arith) j k h near ∙ ap (bitOf (getD (midOf 0 32 y) k 0)) row
-        ∙ ap (λ (w : ℕ). bitOf w j) (row-at k near) ∙ pair-low (v k) (v (32 + k)) (small k inside) j h))
-        (λ c at far. bits-from k inside (λ j h.
-        let start : k ≡ 1 * 32 + c = omega arith in
-        let row : 1 * 32 + j ≡ 32 + j = omega arith in
-        ap (bitOf (getD ys j 0)) start ∙ half-at 1 turned (omega arith) j c h far ∙ ap (bitOf (getD (midOf 0 32 y) c 0)) row
-        ∙ ap (λ (w : ℕ). bitOf w (32 + j)) (row-at c far) ∙ pair-high (v c) (v (32 + c)) (small c (omega arith)) j
-        ∙ ap (λ (n : ℕ). bitOf (v n) j) (sym at))));
+        from-bits (v k) (omega (arith, small k inside)) (λ j h. halved j 32 h (low-bits k j inside)
+        (λ i at far.
+        let there : 32 ≤ j = omega arith in
+        ap (λ (n : ℕ). bitOf n k) (above .at j there h) ∙ bit-none k ∙ sym (bit-above 32 (v k) j (small k inside) there)));
   }
 
--- ---- and back
+-- 32 rows transposed and put back: planes from rows, or rows from planes
+module _ (a ys : List ℕ) (long : length a ≡ 64) (part : length ys ≡ 32) (turned : BlocksTransposed 32 32 (midOf 0 32 a) ys) where
+  abbrev back : List ℕ
+  back = putMid 0 32 a ys
 
-module _ (o ys z : List ℕ) (above : NoneFrom 32 o) (long : length o ≡ 64) (part : length ys ≡ 32)
-    (turned : BlocksTransposed 32 32 (midOf 0 32 o) ys) (split : Split 32 (putMid 0 32 o ys) z)
-    (words : (k : ℕ) → k < 32 → getD (putMid 0 32 o ys) k 0 < 2 ^ 64) where
-  -- a bit of a plane is a bit of the row that two figures share
-  shared-at : (u : ℕ) → u * 32 + 32 ≤ 64 → (j c : ℕ) → j < 32 → c < 32 → bitOf (getD o j 0) (u * 32 + c) ≡ bitOf (getD ys c 0) (u * 32 + j)
-  shared-at u room j c hj hc =
-      ap (λ (w : ℕ). bitOf w (u * 32 + c)) (sym (mid-at 0 32 o j hj ∙ ap (λ (n : ℕ). getD o n 0) (zero-add j)))
-      ∙ sym (half-at u turned room c j hc hj)
+  half-turned : (u j c : ℕ) → u * 32 + 32 ≤ 64 → j < 32 → c < 32 → cell back j (u * 32 + c) ≡ cell a c (u * 32 + j)
+  half-turned u j c room hj hc =
+      ap (λ (w : ℕ). bitOf w (u * 32 + c)) (ap (λ (n : ℕ). getD back n 0) (sym (zero-add j)) ∙ put-at 0 32 a ys zero-le j (omega arith))
+      ∙ block-at turned 0 u j c hj hc (omega arith) room (omega arith) refl (omega arith) refl
+      ∙ ap (λ (w : ℕ). bitOf w (u * 32 + j)) (mid-at 0 32 a c hc ∙ ap (λ (n : ℕ). getD a n 0) (zero-add c))
 
-  row-back : (c : ℕ) → c < 32 → getD (putMid 0 32 o ys) c 0 ≡ getD ys c 0
-  row-back c h = ap (λ (n : ℕ). getD (putMid 0 32 o ys) n 0) (sym (zero-add c)) ∙ put-at 0 32 o ys zero-le c (omega arith)
+  pub halves-are : (v : ℕ → ℕ) → ((k : ℕ) → k < 64 → v k < 2 ^ 32) → Paired 32 v a → PlanesOf v back
+  halves-are v small rows = paired-planes v a back small (rows .two) (record { at = λ j from h. above j from h }) half-turned
+    where
+      above : (j : ℕ) → 32 ≤ j → j < 64 → getD back j 0 ≡ 0
+      above j from h =
+          let place : 32 + (j - 32) ≡ j = omega arith in
+          ap (λ (n : ℕ). getD back n 0) (sym place) ∙ put-after 0 32 a ys zero-le (omega arith) part (j - 32)
+          ∙ ap (λ (n : ℕ). getD a n 0) place ∙ rows .none .at j from h
 
-  -- planes from 32 on have no bit, and a word of 32 bits has none there
-  all-bits : (k w : ℕ) → w < 2 ^ 32 → ((j : ℕ) → j < 32 → bitOf (getD o j 0) k ≡ bitOf w j)
-      → (j : ℕ) → j < 64 → bitOf (getD o j 0) k ≡ bitOf w j
-  all-bits k w small low j h =
-      halved j 32 h (low j)
-      (λ i at far.
-      let there : 32 ≤ j = omega arith in
-      ap (λ (n : ℕ). bitOf n k) (above .at j there h) ∙ bit-none k ∙ sym (bit-above 32 w j small there))
-
-  low-is : (c : ℕ) → c < 32 → gather 64 (λ j. bitOf (getD o j 0) c) ≡ getD z c 0
-  low-is c h =
-      let w = getD ys c 0 in
-      let is : getD z c 0 ≡ w % 2 ^ 32 = split .low c h ∙ ap (λ (n : ℕ). n % 2 ^ 32) (row-back c h) in
-      let small : w % 2 ^ 32 < 2 ^ 32 = mod-lt w (pow-pos 32) in
-      from-bits (w % 2 ^ 32) (omega (arith, small))
-      (all-bits c (w % 2 ^ 32) small (λ j hj.
-      let start : 0 * 32 + c ≡ c = omega arith in
-      let row : 0 * 32 + j ≡ j = omega arith in
-      ap (bitOf (getD o j 0)) (sym start) ∙ shared-at 0 (omega arith) j c hj h ∙ ap (bitOf w) row ∙ sym (bit-mod 32 w j hj)))
-      ∙ sym is
-
-  high-is : (c : ℕ) → c < 32 → gather 64 (λ j. bitOf (getD o j 0) (32 + c)) ≡ getD z (32 + c) 0
-  high-is c h =
-      let w = getD ys c 0 in
-      let is : getD z (32 + c) 0 ≡ w / 2 ^ 32 = split .high c h ∙ ap (λ (n : ℕ). n / 2 ^ 32) (row-back c h) in
-      let small : w / 2 ^ 32 < 2 ^ 32 = omega (arith, words c h, row-back c h) in
-      from-bits (w / 2 ^ 32) (omega (arith, small))
-      (all-bits (32 + c) (w / 2 ^ 32) small (λ j hj.
-      let start : 1 * 32 + c ≡ 32 + c = omega arith in
-      let row : 1 * 32 + j ≡ j + 32 = omega arith in
-      ap (bitOf (getD o j 0)) (sym start) ∙ shared-at 1 (omega arith) j c hj h ∙ ap (bitOf w) row ∙ sym (bit-shr w 32 j)))
-      ∙ sym is
-
-  pub halves-back : PlanesOf (wordsAt z) o
-  halves-back = record { at = λ k inside. halved k 32 inside (low-is k) (λ c at far. rw at (high-is c far)) }
+  pub halves-back : (z : List ℕ) → NoneFrom 32 a → Split 32 back z → ((k : ℕ) → k < 32 → getD back k 0 < 2 ^ 64) → PlanesOf (wordsAt z) a
+  halves-back z above split words =
+      paired-planes (wordsAt z) back a small (λ c h. omega (arith, split .low c h, split .high c h)) above
+      (λ u j c room hj hc. sym (half-turned u c j room hc hj))
+    where
+      small : (k : ℕ) → k < 64 → getD z k 0 < 2 ^ 32
+      small k inside =
+          halved k 32 inside (λ near. omega (arith, split .low k near))
+          (λ c at far. rw at (omega (arith, split .high c far, words c far)))
 
 pub none-narrow : (e : ℕ) (o : List ℕ) → e ≤ 32 → NoneFrom e o → NoneFrom 32 o
 none-narrow e o narrow none = record { at = λ j from h. none .at j (omega arith) h }

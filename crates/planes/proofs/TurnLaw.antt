@@ -1,7 +1,7 @@
 -- Exchanged blocks make a transposed square: one law a level, from blocks of h rows and columns to blocks of 2 h.
-use Prim.Native.Nat.{ℕ, _+_, _*_, _-_, _/_, _%_, _<_, _≤_, _^_}
+use Prim.Native.Nat.{ℕ, _+_, _*_, _-_, _<_, _≤_}
 use mathlib.Core.Logic.{⊎-elim}
-use mathlib.Core.Path.{_≡_, ap, ap₂, refl, sym, _∙_}
+use mathlib.Core.Path.{_≡_, ap, ap₂, refl, _∙_}
 use mathlib.Core.List.{List}
 use native.Mathlib.Nat.{eq-zero-or-pos, mul-le-mul-right, not-suc-le-zero}
 use borrow.Author.Count.{below-more}

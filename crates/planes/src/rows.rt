@@ -1,7 +1,7 @@
 // Words of 64 figures to planes, and back. In a ring of at most 32 bits two figures share a row, k in the low half and k + 32 in
 // the high half: then 32 rows and five levels do.
 ghost use mathlib.Core.Path.{_≡_};
-ghost use Prim.Native.Nat.{_+_, _≤_, _^_};
+ghost use Prim.Native.Nat.{_+_, _≤_};
 ghost use lib.ListN.{length};
 ghost use Rattle.ring.specs.Rings.{modulusOf, widthOf};
 ghost use Rattle.planes.specs.Planes.{AllBelow, Copied, NoneFrom, PlanesOf, Split, fourTimesAt, wordsAt};

@@ -53,10 +53,10 @@ returns c =
     let head = c .before .before .before .before .before .loop in
     let start = c .before .before .before .before .before .before .before .before in
     let same : head .k ≡ 32 = omega arith in
-    halves-are (fourTimesAt (modulusOf (start .args .r)) (start .args .a .now)) (head .y) (c .before .before .transpose-halves .last .0)
-    (λ k h. narrow-lt (start .args .r) (start .args .a .now) k (start .pre .0)) (head .inv .1)
-    (c .before .y .given .0 ∙ mid-len 0 32 (head .y) (omega arith))
-    (rw same at (head .inv .2)) (c .before .before .transpose-halves .ensures .0)
+    let turned = c .before .before .transpose-halves in
+    halves-are (head .y) (turned .last .0) (head .inv .1) (c .before .y .given .0 ∙ mid-len 0 32 (head .y) (omega arith)) (turned .ensures .0)
+    (fourTimesAt (modulusOf (start .args .r)) (start .args .a .now)) (λ k h. narrow-lt (start .args .r) (start .args .a .now) k (start .pre .0))
+    (rw same at (head .inv .2))
 
 pub narrow-planes-spec : {M : Type 1} → statement M
 narrow-planes-spec =

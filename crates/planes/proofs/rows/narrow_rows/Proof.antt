@@ -13,8 +13,8 @@ returns c =
     let turned = back .before .transpose-halves in
     let start = back .before .before .before .before .before in
     let o = start .args .o .now in (
-      halves-back o (turned .last .0) (split .last .1 .0) (start .pre .1 .1) (start .pre .0) (back .o .given .0 ∙ mid-len 0 32 o (omega arith))
-          (turned .ensures .0) (split .ensures .0) (λ k h. omega (arith, c .before .before .before .before .before .slice-known3 .given k)),
+      halves-back o (turned .last .0) (start .pre .0) (back .o .given .0 ∙ mid-len 0 32 o (omega arith)) (turned .ensures .0) (split .last .1 .0)
+          (start .pre .1 .1) (split .ensures .0) (λ k h. omega (arith, c .before .before .before .before .before .slice-known3 .given k)),
       split .ensures .1,
     )
 
