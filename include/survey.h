@@ -5,6 +5,8 @@
  * "02" its change requests; crates/layout/specs/Layout.antt says what each word is, crates/interface/specs/Calls.antt
  * what a call leaves.
  *
+ * The library calls nothing but memset and memcpy of C.
+ *
  * Each run of words is a pointer and its length in words. A pointer is never null, not even for length 0, and is
  * aligned for uint64_t. A run that a call writes overlaps no other run of that call.
  * No function keeps a pointer, allocates, or can fail in any other way than by the number that it returns.
@@ -144,6 +146,7 @@ uint64_t survey_prepare(uint64_t code,
  * 3 * bits + 1 gates; the words behind those on a channel stay as they are.
  * Checked in this order: 23; 5, width 13 too; 7, bits not from 1 to width - 2; 10, a sub-share of 2^width - 1 or more;
  * 8; 9; 11. Returns the refusal or 0, as above; SURVEY_MALFORMED where the answer has not three words.
+ * Every call needs mask tapes of its own: two calls that take the same words let a unit see differences of hidden bits.
  */
 uint64_t survey_batch(uint64_t width, uint64_t bits,
                       const uint64_t *a0, size_t a0_length,

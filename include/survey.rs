@@ -125,6 +125,7 @@ pub fn prepare(code: u64, raw: &[u64], run: &mut [u64], answer: &mut [u64]) -> u
 }
 
 /// 64 figures of a ring decomposed into so many bits each: sub-shares, mask tapes, channels, results.
+/// Every call needs mask tapes of its own.
 #[rustfmt::skip]
 pub fn batch(
     width: u64,
