@@ -29,7 +29,7 @@ pub fn divisions(file: &Path) -> Vec<String> {
     found
 }
 
-/// C's functions that the compiler uses to fill and copy arrays of fixed length. What they execute is in the traces.
+/// C's functions that the compiler uses to fill and copy runs of fixed length. The traces have the variants picked under valgrind.
 const OF_C: [&str; 2] = ["memcpy", "memset"];
 
 /// What is not in an archive but left to others, of whose code nothing is known; the library's three functions must be there.
