@@ -1,6 +1,6 @@
 -- Remainders modulo 2^e - 1 by shifts and masks alone, at every width.
 use Prim.Native.Nat.{ℕ, _+_, _*_, _-_, _/_, _%_, _<_, _≤_, _^_}
-use mathlib.Core.Path.{_≡_, sym, _∙_, ap}
+use mathlib.Core.Path.{_≡_, refl, sym, _∙_, ap}
 use mathlib.Core.Logic.{⊎-elim}
 use native.Mathlib.Nat.{
   add-mul-mod-self-left,
@@ -16,11 +16,11 @@ use native.Mathlib.Nat.{
 }
 use native.Mathlib.Omega.{arith}
 use lib.Bits.{bitAnd}
-use lib.Pow.{pow-pos, pow-mono}
+use lib.Pow.{mod-pow-add, pow-mono, pow-pos, shr-shr}
 use Rattle.ring.specs.Modular.{Cong}
-use Rattle.ring.specs.Rings.{modulus}
+use Rattle.ring.specs.Rings.{modulus, rotated, u}
 use Rattle.ring.proofs.CongLaw.{cong-of-eq, cong-sym, cong-trans}
-use Rattle.ring.proofs.Theorems.{div-pow-le, folds, modulus-suc}
+use Rattle.ring.proofs.Theorems.{div-pow-le, folds, four-times, modulus-suc}
 use Rattle.ring.proofs.WordLaw.{low-bits}
 
 -- folding: what is above bit e is added to what is below it
@@ -112,3 +112,20 @@ reduced-short e p s h room =
     ∙ sym (low-bits e p (fold e s + (fold e s + 1) / 2 ^ e) h)
     ∙ reduced e p (fold e s) h small
     ∙ fold-same e s h
+
+-- of a multiple of 2^k the fold is a turn by k
+fold-turns : (e k s : ℕ) → k ≤ e → s % 2 ^ k ≡ 0 → fold e s ≡ rotated e k (s / 2 ^ k)
+unfolding rotated
+fold-turns e k s places none =
+    let up : e ≡ k + (e - k) = omega arith in
+    let down : e ≡ (e - k) + k = omega arith in
+    let high : s / 2 ^ e ≡ s / 2 ^ k / 2 ^ (e - k) = ap (λ (n : ℕ). s / 2 ^ n) up ∙ sym (shr-shr s k (e - k)) in
+    let low : s % 2 ^ e ≡ s / 2 ^ k % 2 ^ (e - k) * 2 ^ k + s % 2 ^ k = ap (λ (n : ℕ). s % 2 ^ n) down ∙ mod-pow-add s (e - k) k in
+    omega (arith, high, low, none)
+
+-- so 2^u times a number below p is reduced by one fold
+pub reduced-multiple : (e p s : ℕ) → p ≡ modulus e → 2 ≤ e → s % 2 ^ u ≡ 0 → s < 2 ^ u * p → fold e s ≡ s % p
+reduced-multiple e p s h wide none small =
+    let number : s / 4 < modulus e = omega (arith, h) in
+    let whole : 4 * (s / 4) ≡ s = omega arith in
+    fold-turns e u s wide none ∙ four-times e (s / 4) wide number ∙ rw (whole, h) refl

@@ -12,6 +12,10 @@ use Rattle.ring.specs.declared.rings.Ring.the-variants.{R13, R31, R61}
 unfoldable pub modulus : ℕ → ℕ
 modulus e = 2 ^ e - 1
 
+-- u of document 000, whose step 1 multiplies by 2^u: order 5's "four times"
+abbrev pub u : ℕ
+u = 2
+
 -- the inverse of four modulo p
 unfoldable pub quarter : ℕ → ℕ
 quarter e = 2 ^ (e - 2)

@@ -1,13 +1,13 @@
 // Sums, differences, products, remainders and four times, in a ring.
 ghost use mathlib.Core.Path.{_≡_};
-ghost use Prim.Native.Nat.{_+_, _*_, _%_, _<_};
+ghost use Prim.Native.Nat.{_+_, _*_, _%_, _<_, _^_};
 ghost use Rattle.ring.specs.Modular.{diff};
-ghost use Rattle.ring.specs.Rings.{modulusOf};
+ghost use Rattle.ring.specs.Rings.{modulusOf, u};
 use crate::modular::add_mod;
 use crate::modular::mul_mod;
+use crate::modular::reduce_multiple;
 use crate::modular::reduce_short;
 use crate::modular::reduce_word;
-use crate::modular::rotate_mod;
 use crate::modular::sub_mod;
 use crate::rings::Ring;
 
@@ -59,12 +59,12 @@ impl Ring {
         reduce_word(self.width(), self.modulus(), a)
     }
 
-    // 4 a modulo p: the e bits of a, turned left by two.
+    // Document 000, Schemes 2 and 3, step 1: 2^u times a, then modulo p. It is the turn of the e bits of a left by two: `FourTimes`.
     pub fn four_times(self, a: u64) -> u64
         requires { ⌜ a < modulusOf self ⌝ }
-        ensures is { λ r. ⌜ r ≡ 4 * a % modulusOf self ⌝ }
+        ensures is { λ r. ⌜ r ≡ 2 ^ u * a % modulusOf self ⌝ }
         ensures below { λ r. ⌜ r < modulusOf self ⌝ }
     {
-        rotate_mod(self.width(), self.modulus(), 2, a)
+        reduce_multiple(self.width(), self.modulus(), a << Ring::U)
     }
 }

@@ -3,7 +3,7 @@
 ghost use mathlib.Core.Path.{_≡_};
 ghost use Prim.Native.Nat.{_+_, _*_, _/_, _%_, _<_, _≤_, _^_};
 ghost use Rattle.ring.specs.Modular.{Cong, diff};
-ghost use Rattle.ring.specs.Rings.{Sized, modulus, rotated};
+ghost use Rattle.ring.specs.Rings.{Sized, modulus, rotated, u};
 
 // a + b modulo p.
 pub fn add_mod(e: u64, p: u64, a: u64, b: u64) -> u64
@@ -74,18 +74,6 @@ fn columns(k: u64, p: u64, a: u64, b: u64, c: u64, d: u64) -> u64
     2 * (a1 * b1 + c1 * d1) + (m >> k) + ((m << (k + 1)) & p) + (a0 * b0 + c0 * d0)
 }
 
-// 2^k × a modulo p: the e bits of a, turned left by k.
-pub fn rotate_mod(e: u64, p: u64, k: u64, a: u64) -> u64
-    requires modulus { ⌜ p ≡ modulus e ⌝ }
-    requires width { ⌜ e < 64 ⌝ }
-    requires places { ⌜ k ≤ e ⌝ }
-    requires number { ⌜ a < p ⌝ }
-    ensures is { λ r. ⌜ r ≡ 2 ^ k * a % p ⌝ }
-    ensures below { λ r. ⌜ r < p ⌝ }
-{
-    rotate_word(e, p, k, a)
-}
-
 // s + 2^k × a modulo p, not reduced, of numbers that need not be.
 pub fn add_rotated(e: u64, p: u64, k: u64, a: u64, s: u64) -> u64
     requires sized { ⌜ Sized e p ⌝ }
@@ -129,6 +117,18 @@ pub fn reduce_short(e: u64, p: u64, s: u64) -> u64
     ensures below { λ r. ⌜ r < p ⌝ }
 {
     (s + ((s + (s >> e) + 1) >> e)) & p
+}
+
+// s modulo p, of 2^u times a number below p: one fold, for it leaves that number's bits, turned (`FourTimes`), and not all are ones.
+pub fn reduce_multiple(e: u64, p: u64, s: u64) -> u64
+    requires modulus { ⌜ p ≡ modulus e ⌝ }
+    requires width { ⌜ (2 ≤ e) × (e < 64) ⌝ }
+    requires multiple { ⌜ s % 2 ^ u ≡ 0 ⌝ }
+    requires number { ⌜ s < 2 ^ u * p ⌝ }
+    ensures is { λ r. ⌜ r ≡ s % p ⌝ }
+    ensures below { λ r. ⌜ r < p ⌝ }
+{
+    fold(e, p, s)
 }
 
 // What is above bit e, added to what is below it: the same modulo p.

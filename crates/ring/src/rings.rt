@@ -34,6 +34,9 @@ impl Ring {
 
     pub const QUARTER_61: u64 = 0x0800_0000_0000_0000;
 
+    // u of document 000: the bits that hold the quotient of three sub-shares' total by p.
+    pub const U: u64 = 2;
+
     // The ring of a width, where there is one.
     pub fn of_width(e: u64) -> OfWidth
         ensures { λ r. ⌜ r ≡ ringOf e ⌝ }
