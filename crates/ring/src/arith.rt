@@ -65,6 +65,7 @@ impl Ring {
         ensures is { λ r. ⌜ r ≡ 2 ^ u * a % modulusOf self ⌝ }
         ensures below { λ r. ⌜ r < modulusOf self ⌝ }
     {
-        reduce_multiple(self.width(), self.modulus(), a << Ring::U)
+        let multiple = a << Ring::U;
+        reduce_multiple(self.width(), self.modulus(), multiple)
     }
 }

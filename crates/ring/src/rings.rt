@@ -34,7 +34,7 @@ impl Ring {
 
     pub const QUARTER_61: u64 = 0x0800_0000_0000_0000;
 
-    // u of document 000: the bits that hold the quotient of three sub-shares' total by p.
+    // u of document 000: the quotient of three sub-shares' total by p, below 3, has two bits.
     pub const U: u64 = 2;
 
     // The ring of a width, where there is one.
