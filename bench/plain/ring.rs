@@ -103,8 +103,8 @@ impl Ring {
         2 * high + (middle >> k) + (middle << (k + 1) & self.p) + low
     }
 
-    /// 4a: the e bits of a turned left by two.
+    /// 4a: below p after one fold, which leaves the e bits of a turned left by two.
     pub fn four_times(self, a: u64) -> u64 {
-        a << 2 & self.p | a >> (self.width - 2)
+        self.fold(a << 2)
     }
 }

@@ -12,7 +12,7 @@ use Rattle.ring.specs.declared.rings.Ring.the-variants.{R13, R31, R61}
 unfoldable pub modulus : ℕ → ℕ
 modulus e = 2 ^ e - 1
 
--- u of document 000, whose step 1 multiplies by 2^u: order 5's "four times"
+-- u of document 000: its 2^u (Schemes 2 and 3, step 1) is the 4 of order 5
 abbrev pub u : ℕ
 u = 2
 

@@ -119,7 +119,7 @@ pub fn reduce_short(e: u64, p: u64, s: u64) -> u64
     (s + ((s + (s >> e) + 1) >> e)) & p
 }
 
-// s modulo p, of 2^u times a number below p: one fold, for it leaves that number's bits, turned (`FourTimes`), and not all are ones.
+// s modulo p, of 2^u times a number below p: one fold is the turn of that number's e bits left by u, which is the remainder (`FourTimes`).
 pub fn reduce_multiple(e: u64, p: u64, s: u64) -> u64
     requires modulus { ⌜ p ≡ modulus e ⌝ }
     requires width { ⌜ (2 ≤ e) × (e < 64) ⌝ }

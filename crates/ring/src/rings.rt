@@ -1,4 +1,4 @@
-// The ring type: widths, moduli and inverses of four.
+// The ring type: widths, moduli and inverses of four; document 000's u.
 ghost use mathlib.Core.Path.{_≡_};
 ghost use Rattle.ring.specs.Rings.{modulusOf, quarterOf, ringOf, widthOf};
 
@@ -34,7 +34,7 @@ impl Ring {
 
     pub const QUARTER_61: u64 = 0x0800_0000_0000_0000;
 
-    // u of document 000: the quotient of three sub-shares' total by p, below 3, has two bits.
+    // u of document 000, the logarithm of 3 rounded up: the quotient of three sub-shares' total by p has u bits.
     pub const U: u64 = 2;
 
     // The ring of a width, where there is one.
