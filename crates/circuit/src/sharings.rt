@@ -31,7 +31,7 @@ pub fn items_at(m0: &[u64], m1: &[u64], m2: &[u64], k: usize) -> Sharing
     }
 }
 
-// x_i = 4 a_i modulo p.
+// x_i = 4 a_i modulo p: document 000, Schemes 2 and 3, step 1.
 pub fn four_times(r: Ring, a: Sharing) -> Sharing
     requires { ⌜ InRange (modulusOf r) a ⌝ }
     ensures { λ x. ⌜ x ≡ fourTimes (modulusOf r) a ⌝ }
