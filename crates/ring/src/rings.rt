@@ -34,7 +34,7 @@ impl Ring {
 
     pub const QUARTER_61: u64 = 0x0800_0000_0000_0000;
 
-    // u of document 000, the logarithm of 3 rounded up: the quotient of three sub-shares' total by p has u bits.
+    // u of document 000, the logarithm of 3 to base 2, rounded up: the quotient of three sub-shares' total by p fits u bits.
     pub const U: u64 = 2;
 
     // The ring of a width, where there is one.
