@@ -58,18 +58,26 @@ impl<'a> Lent<'a> {
     #[inline(always)]
     pub fn gate_of_bits(&mut self, k: usize, r: Ring, b0: u64, b1: u64) -> Sharing {
         let [t0, t1, t2] = self.items(k);
-        let z0 = r.reduce((b0 & b1) + t0 + (r.p - t1));
-        self.send(k, [z0, r.sub(t1, t2), r.sub(t2, t0)])
+        let z0 = r.reduce((b0 & b1) + mask(r, t0, t1));
+        let [z1, z2] = [mask(r, t1, t2), mask(r, t2, t0)].map(|d| r.reduce_once(d));
+        self.send(k, [z0, z1, z2])
     }
 
     /// Gate k in a ring, of an x below 3p with a bit at place 2.
     #[inline(always)]
     pub fn gate_by_bit(&mut self, k: usize, r: Ring, x: Sharing, b2: u64) -> Sharing {
         let [t0, t1, t2] = self.items(k);
-        let z1 = r.reduce(x[1] * b2 + t1 + (r.p - t2));
-        let z2 = r.reduce((x[2] + x[0]) * b2 + t2 + (r.p - t0));
-        self.send(k, [r.sub(t0, t1), z1, z2])
+        let z0 = r.reduce_once(mask(r, t0, t1));
+        let z1 = r.reduce(x[1] * b2 + mask(r, t1, t2));
+        let z2 = r.reduce((x[2] + x[0]) * b2 + mask(r, t2, t0));
+        self.send(k, [z0, z1, z2])
     }
+}
+
+/// t_(i+1) - t_i, not reduced, from t_i and t_(i+1).
+#[inline(always)]
+fn mask(r: Ring, own: u64, far: u64) -> u64 {
+    far + (r.p - own)
 }
 
 /// The three words of a gate in a ring, each reduced once.
@@ -77,7 +85,7 @@ impl<'a> Lent<'a> {
 pub fn ring_words(r: Ring, x: Sharing, y: Sharing, t: Sharing) -> Sharing {
     let word = |i: usize, n: usize| {
         let products = r.two_products([x[i], r.add(y[i], y[n])], [x[n], y[i]]);
-        r.reduce(r.fold(products) + t[i] + (r.p - t[n]))
+        r.reduce(r.fold(products) + mask(r, t[i], t[n]))
     };
     [word(0, 1), word(1, 2), word(2, 0)]
 }

@@ -31,7 +31,7 @@ impl Ring {
     }
 
     /// s modulo p where s is below 2p.
-    fn reduce_once(self, s: u64) -> u64 {
+    pub fn reduce_once(self, s: u64) -> u64 {
         (s + ((s + 1) >> self.width)) & self.p
     }
 

@@ -1,8 +1,9 @@
-//! 01, "Figures worked by hand".
+//! 01, "Figures worked by hand", with the masks of 02, P5.
 
 use crate::bench::Bench;
 use reference::gate::words;
 use reference::record::Shares;
+use reference::ring::Ring;
 use reference::tape::prepare;
 
 const P: u64 = 8191;
@@ -51,18 +52,40 @@ fn conversions() {
     assert_eq!(converted(31, [2147483646, 5000, 5001], 13), 1809);
 }
 
+/// A product, with one item of each tape and zeros behind it.
+fn multiplied(width: u64, [x, y]: [Shares; 2], items: Shares) -> Bench {
+    let mut bench = Bench::new(40);
+    bench.put(0, width, x);
+    bench.put(1, width, y);
+    for (tape, item) in bench.masks.iter_mut().zip(items) {
+        tape[0] = item;
+    }
+    assert_eq!(bench.step(4, &[2, 0, 1]).gates, 1);
+    bench
+}
+
 #[test]
 fn products() {
-    let z = words(P, [1, 2, 2], [3, 0, 0], [10, 20, 30]);
-    assert_eq!(z, [8190, 8181, 26]);
-    assert_eq!(z.iter().sum::<u64>() % P, 15);
-    let mut bench = Bench::new(1);
-    bench.put(0, 13, [1, 2, 2]);
-    bench.put(1, 13, [3, 0, 0]);
-    bench.masks = [vec![10], vec![20], vec![30]];
-    assert_eq!(bench.step(4, &[2, 0, 1]).gates, 1);
-    assert_eq!(bench.shares(2), [8190, 8181, 26]);
-    assert_eq!(bench.channels, [vec![8190], vec![8181], vec![26]]);
+    assert_eq!(words(P, [1, 2, 2], [3, 0, 0], [10, 20, 30]), [19, 10, 8177]);
+    for ring in Ring::all() {
+        let bench = multiplied(ring.width(), [[1, 2, 2], [3, 0, 0]], [10, 20, 30]);
+        let z = [19, 10, ring.modulus() - 14];
+        assert_eq!(bench.shares(2), z);
+        assert_eq!(bench.channels.each_ref().map(|channel| channel[0]), z);
+        assert_eq!(bench.value(2), 15);
+    }
+}
+
+/// The figure is above p / 4, so that its bits depend on its sub-shares: with 01's masks they were others, and gave 1587.
+#[test]
+fn a_large_product_decomposed() {
+    let mut bench = multiplied(13, [[1949, 1, 3030], [0, 0, 7445]], [2124, 0, 8156]);
+    let z = [6067, 7410, 6539];
+    assert_eq!((bench.shares(2), bench.value(2)), (z, 3634));
+    assert_eq!(bench.refusal(5, &[3, 2, 11]), 0);
+    assert_eq!(bench.value(3), 1586);
+    assert_eq!(decomposed(z), 1586);
+    assert_eq!(decomposed([2124, 7480, 2221]), 1587);
 }
 
 #[test]

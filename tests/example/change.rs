@@ -1,48 +1,21 @@
 //! Other tapes in the place of those that party 1 does not see.
 
-use crate::runs::{end, run, views, Job, Outcome, Tapes, FAR, LACKED, OWN};
-use reference::machine::{work, Work};
+use crate::runs::{end, gates, run, views, Gate, Job, Outcome, Tapes, FAR, LACKED, OWN};
 use reference::order::Order;
 use reference::record::Register;
-
-/// Where a gate's items and its words stand, and its modulus.
-struct Gate {
-    item: usize,
-    word: usize,
-    modulus: u64,
-}
-
-fn gates_of(outcome: &Outcome) -> Vec<Gate> {
-    let (before, spent) = (&outcome.before, outcome.answer.gates as usize);
-    let moduli = match work(before, outcome.order) {
-        Ok(Work::Gates { circuit, .. }) => circuit.moduli(),
-        _ => Vec::new(),
-    };
-    let gate = |(k, modulus)| Gate {
-        item: before.masks as usize + k,
-        word: before.channels as usize + k,
-        modulus,
-    };
-    moduli
-        .into_iter()
-        .enumerate()
-        .map(gate)
-        .take(spent)
-        .collect()
-}
 
 /// The words that party 1 has received at the end of a run.
 fn received(job: &Job, tapes: &Tapes) -> Vec<u64> {
     end(&run(job, tapes)).channels[FAR].clone()
 }
 
-/// The tapes with which party 1 receives `words` at the gates. The word of a gate is a number that depends on the items
-/// before, less the lacked item, so the lacked items are found in turn.
+/// The tapes with which party 1 receives `words` at the gates. The word of a gate is the lacked item and a number that
+/// depends on the items before, so the lacked items are found in turn.
 fn receiving(job: &Job, mut tapes: Tapes, gates: &[Gate], words: &[u64]) -> Tapes {
     for gate in gates {
         tapes.masks[LACKED][gate.item] = 0;
         let number = received(job, &tapes)[gate.word];
-        tapes.masks[LACKED][gate.item] = (number + gate.modulus - words[gate.word]) % gate.modulus;
+        tapes.masks[LACKED][gate.item] = (words[gate.word] + gate.modulus - number) % gate.modulus;
     }
     tapes
 }
@@ -66,16 +39,15 @@ fn handing(k: &Job, mut tapes: Tapes, course: &[Outcome]) -> Tapes {
 /// The tapes of the run of k that party 1 cannot tell from the run of j with `tapes`.
 pub fn image(j: &Job, k: &Job, tapes: &Tapes) -> Tapes {
     let course = run(j, tapes);
-    let gates: Vec<Gate> = course.iter().flat_map(gates_of).collect();
     let handed = handing(k, tapes.clone(), &course);
-    receiving(k, handed, &gates, &end(&course).channels[FAR])
+    receiving(k, handed, &gates(&course), &end(&course).channels[FAR])
 }
 
 /// Tapes with which party 1 receives one word that it does not receive with `tapes`, and sees all else alike: the first
 /// gate for which there are such tapes.
 pub fn other(job: &Job, tapes: &Tapes) -> Option<Tapes> {
     let course = run(job, tapes);
-    let gates: Vec<Gate> = course.iter().flat_map(gates_of).collect();
+    let gates = gates(&course);
     let changed = |k: usize| {
         let mut words = end(&course).channels[FAR].clone();
         let word = &mut words[gates[k].word];

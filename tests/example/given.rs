@@ -1,6 +1,6 @@
 //! The two jobs of the example and the tapes of a run of each.
 
-use crate::runs::{Entry, Job, Tapes};
+use crate::runs::{gates, run, Entry, Job, Tapes};
 use jobs::draw::Draw;
 use reference::order::Order;
 
@@ -8,37 +8,11 @@ use reference::order::Order;
 const CHANNEL: usize = 72;
 const TAPE: usize = 70;
 
-/// The items that multiply, decompose, convert, shift (two lines) and compose take.
-const TAKEN: [[u64; 58]; 3] = [
-    [
-        975, //
-        1, 0, 0, 1, 1, 1, 0, 0, 0, 0, //
-        1, 1753981654, 210564253, 965626409, 24672076, //
-        1, 1, 0, 1, 1, 1, 1, 1, 0, 1, 0, 1, 1, 1, 0, 1, 0, //
-        1, 1, 1, 1, 0, 1, 1, 0, 1, 1, 1, 1, 1, 1, 0, 0, 0, 6702, 400, //
-        7886, 5772, 4286, 7264, 5492, 840,
-    ],
-    [
-        5876, //
-        1, 1, 0, 1, 0, 0, 1, 1, 1, 1, //
-        1, 1177140015, 1717561718, 1389127789, 1077821208, //
-        1, 1, 1, 0, 1, 1, 0, 0, 0, 1, 1, 1, 0, 1, 1, 1, 1, //
-        1, 0, 1, 1, 1, 0, 1, 1, 1, 0, 1, 1, 0, 1, 1, 1, 0, 1594, 6123, //
-        7017, 3369, 1198, 3681, 7507, 114,
-    ],
-    [
-        755, //
-        0, 1, 0, 0, 0, 0, 0, 1, 1, 0, //
-        0, 673113141, 1427177532, 1252123489, 1233264613, //
-        1, 0, 0, 1, 0, 1, 0, 1, 0, 0, 1, 1, 1, 0, 0, 1, 0, //
-        0, 1, 0, 0, 1, 1, 0, 0, 1, 1, 1, 1, 1, 0, 1, 1, 0, 1260, 4843, //
-        4256, 1695, 3552, 5106, 2755, 3758,
-    ],
-];
+/// The dealer's tape of the run of J.
+const DEALER: [u64; 5] = [8000, 100, 4000, 8000, u64::MAX];
 
-/// The items that the second decomposition takes are drawn.
+/// The mask items that a gate takes are drawn.
 const SEED: u64 = 1;
-const DRAWN: usize = 10;
 
 /// The items that nothing takes.
 const LEFT: [[u64; 2]; 3] = [[u64::MAX, 0], [6, u64::MAX], [7, 8]];
@@ -82,17 +56,19 @@ pub fn job_k() -> Job {
     dealing(4, 8)
 }
 
-/// The tapes of the run of J.
+/// The tapes of the run of J. Moduli are public, so a run on tapes of zeros shows them.
 pub fn tapes_j() -> Tapes {
+    let dealer = DEALER.to_vec();
+    let masks = [0; 3].map(|_| vec![0; TAPE]);
+    let zeros = Tapes { masks, dealer };
+    let gates = gates(&run(&job_j(), &zeros));
     let mut draw = Draw::new(SEED);
-    let masks = [0, 1, 2].map(|i| {
-        let drawn = [0; DRAWN].map(|_| draw.below(2));
-        [&TAKEN[i][..], &drawn, &LEFT[i]].concat()
+    let masks = LEFT.map(|left| {
+        let taken = gates.iter().map(|gate| draw.below(gate.modulus));
+        taken.chain(left).collect()
     });
-    Tapes {
-        masks,
-        dealer: vec![8000, 100, 4000, 8000, u64::MAX],
-    }
+    let dealer = DEALER.to_vec();
+    Tapes { masks, dealer }
 }
 
 /// The tapes of the run of K: the mask tapes of the run of J, turned by one place.

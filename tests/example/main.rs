@@ -1,6 +1,7 @@
 //! The figures of the example of demand 3 (crates/example), worked out by the reference.
 //!
 //! example                 prints them as definitions
+//! example write FILE...   puts them into these files, in the place of the definitions of their names
 //! example check FILE...   looks for them in these files
 
 mod change;
@@ -13,7 +14,7 @@ use given::{job_j, job_k, tapes_j, tapes_k};
 use jobs::tally::Tally;
 use reference::order::Order;
 use runs::{channel, end, is_fair, run, shares, views, Outcome, FAR, LACKED};
-use text::{definitions, names, words, Figures, Line};
+use text::{definitions, names, replaced, words, Figures, Line};
 
 fn table(course: &[Outcome]) -> Vec<Line> {
     let line = |outcome: &Outcome| {
@@ -29,10 +30,19 @@ fn values(course: &[Outcome]) -> Vec<u64> {
     registers.map(|register| register.value()).collect()
 }
 
+/// The order after which party 1 has first received another word, and that word.
+fn first_other(course: &[Outcome], other: &[Outcome]) -> Option<[usize; 2]> {
+    let [a, b] = [course, other].map(|course| channel(course, FAR));
+    let order = a.iter().zip(&b).position(|(a, b)| a != b)?;
+    let word = a[order].iter().zip(b[order]).position(|(a, b)| a != b)?;
+    Some([order, word])
+}
+
 fn figures() -> Figures {
     let (j, k) = (job_j(), job_k());
     let (course_j, course_k) = (run(&j, &tapes_j()), run(&k, &tapes_k()));
     let other = other(&j, &tapes_j()).expect("a word that shows in nothing else");
+    let told = first_other(&course_j, &run(&j, &other)).expect("another word");
     let multiplies = |outcome: &Outcome| matches!(outcome.order, Order::Multiply { .. });
     Figures {
         job_j: job_j(),
@@ -44,6 +54,7 @@ fn figures() -> Figures {
         values_k: values(&course_k),
         image: image(&j, &k, &tapes_j()),
         other: other.masks[LACKED].clone(),
+        told,
         multiplied: course_j
             .into_iter()
             .find(multiplies)
@@ -97,17 +108,26 @@ fn check(printed: &str, files: &[String], tally: &mut Tally) {
     }
 }
 
+fn write(printed: &str, files: &[String]) -> std::io::Result<()> {
+    for file in files {
+        let text = std::fs::read_to_string(file)?;
+        std::fs::write(file, replaced(&text, printed))?;
+    }
+    Ok(())
+}
+
 fn main() {
     let figures = figures();
     let printed = definitions(&figures);
     let mut tally = Tally::default();
     claims(&figures, &mut tally);
     let words: Vec<String> = std::env::args().skip(1).collect();
-    match words.split_first() {
-        Some((word, files)) if word == "check" => check(&printed, files, &mut tally),
-        Some(_) => panic!("check FILE..., or nothing"),
-        None if tally.failed() == 0 => return print!("{printed}"),
-        None => {}
+    match (words.first().map(String::as_str), tally.failed()) {
+        (Some("check"), _) => check(&printed, &words[1..], &mut tally),
+        (Some("write"), 0) => return write(&printed, &words[1..]).expect("text files"),
+        (None, 0) => return print!("{printed}"),
+        (Some("write") | None, _) => {}
+        (Some(_), _) => panic!("write FILE..., check FILE..., or nothing"),
     }
     tally.finish()
 }

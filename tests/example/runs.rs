@@ -1,7 +1,7 @@
 //! Runs of a job, when they are fair, and what party 1 sees of them (01, "What demand 3 compares").
 
 use reference::layout::{record_words, REGISTER_WORDS};
-use reference::machine::{step, Answer, Lent};
+use reference::machine::{step, work, Answer, Lent, Work};
 use reference::order::Order;
 use reference::record::{Record, Register, REGISTERS};
 
@@ -62,6 +62,37 @@ pub fn run(job: &Job, tapes: &Tapes) -> Vec<Outcome> {
 /// The last outcome of a run.
 pub fn end(course: &[Outcome]) -> &Outcome {
     course.last().expect("a job with orders")
+}
+
+/// Where a gate's items and its words stand, and its modulus.
+pub struct Gate {
+    pub item: usize,
+    pub word: usize,
+    pub modulus: u64,
+}
+
+fn gates_of(outcome: &Outcome) -> Vec<Gate> {
+    let (before, spent) = (&outcome.before, outcome.answer.gates as usize);
+    let moduli = match work(before, outcome.order) {
+        Ok(Work::Gates { circuit, .. }) => circuit.moduli(),
+        _ => Vec::new(),
+    };
+    let gate = |(k, modulus)| Gate {
+        item: before.masks as usize + k,
+        word: before.channels as usize + k,
+        modulus,
+    };
+    moduli
+        .into_iter()
+        .enumerate()
+        .map(gate)
+        .take(spent)
+        .collect()
+}
+
+/// The gates of a run, in turn.
+pub fn gates(course: &[Outcome]) -> Vec<Gate> {
+    course.iter().flat_map(gates_of).collect()
 }
 
 /// 4a is below p if the order decomposes, converts or shifts a.

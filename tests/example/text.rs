@@ -3,10 +3,10 @@
 use crate::runs::{shares, Entry, Job, Outcome, Tapes, FAR, OWN};
 use reference::order::Order;
 use std::iter::once;
+use std::ops::Range;
 
-/// Lines of a mask tape: the items that multiply, decompose, convert, shift (two lines), compose and the second
-/// decomposition take, and those that nothing takes.
-const LINES: [usize; 8] = [1, 10, 5, 17, 19, 6, 10, 2];
+/// Items on a line, at most.
+const LINE: usize = 20;
 
 /// The orders by their kind.
 const KINDS: [&str; 9] = [
@@ -38,6 +38,8 @@ pub struct Figures {
     pub image: Tapes,
     /// Mask tape 0 of `other`.
     pub other: Vec<u64>,
+    /// The order after which `other` shows, and the word received.
+    pub told: [usize; 2],
     /// The multiplication in the run of J.
     pub multiplied: Outcome,
 }
@@ -59,14 +61,18 @@ fn channel(words: &[u64]) -> String {
     format!("{first}replicate {} {last}", equal.len())
 }
 
-/// A mask tape in lines, indented by so many spaces.
-fn tape(items: &[u64], indent: usize) -> String {
+/// A mask tape, indented by so many spaces: a line, or some of one length, for each order that takes items, and one for
+/// those that nothing takes.
+fn tape(items: &[u64], table: &[Line], indent: usize) -> String {
     let mut rest = items;
     let mut lines = Vec::new();
-    for count in LINES {
-        let (line, after) = rest.split_at(count);
-        let items: Vec<String> = line.iter().map(u64::to_string).collect();
-        lines.push(items.join(" ∷ "));
+    let taken = table.iter().map(|line| line[3] as usize);
+    let spent: usize = taken.clone().sum();
+    for count in taken.chain(once(items.len() - spent)).filter(|&n| n > 0) {
+        let (group, after) = rest.split_at(count);
+        let length = count.div_ceil(count.div_ceil(LINE));
+        let words = |line: &[u64]| line.iter().map(u64::to_string).collect::<Vec<_>>();
+        lines.extend(group.chunks(length).map(|line| words(line).join(" ∷ ")));
         rest = after;
     }
     let between = format!("\n{}∷ ", " ".repeat(indent));
@@ -85,8 +91,8 @@ fn table(table: &[Line]) -> String {
     lines(table.iter().map(line))
 }
 
-fn image(tapes: &Tapes) -> String {
-    let (dealer, lacked) = (list(&tapes.dealer), tape(&tapes.masks[0], 10));
+fn image(tapes: &Tapes, table: &[Line]) -> String {
+    let (dealer, lacked) = (list(&tapes.dealer), tape(&tapes.masks[0], table, 10));
     format!("\n    record {{\n      dealer = {dealer};\n      lacked ={lacked};\n    }}")
 }
 
@@ -151,7 +157,10 @@ fn given(figures: &Figures) -> Vec<String> {
     let after_deals = lines(job.entries[2..].iter().map(entry));
     let dealing = dealing(job, run);
     let (j, k) = (dealt(job), dealt(&figures.job_k));
-    let [t0, t1, t2] = run.masks.each_ref().map(|items| tape(items, 4));
+    let [t0, t1, t2] = run
+        .masks
+        .each_ref()
+        .map(|items| tape(items, &figures.table, 4));
     let (t, turned) = (tapes(run, run), tapes(&figures.tapes_k, run));
     vec![
         format!("abbrev lending : ℕ → Order → Entry orders\nlending n o = {lending}\n"),
@@ -169,9 +178,12 @@ fn given(figures: &Figures) -> Vec<String> {
 
 /// What comes of them.
 fn found(figures: &Figures) -> Vec<String> {
-    let table = table(&figures.table);
+    let answers = &figures.table;
+    let table = table(answers);
     let (values_j, values_k) = (list(&figures.values_j), list(&figures.values_k));
-    let (image, other) = (image(&figures.image), tape(&figures.other, 4));
+    let image = image(&figures.image, answers);
+    let other = tape(&figures.other, answers, 4);
+    let [after, word] = figures.told;
     let seen = &figures.multiplied;
     let (own, far) = (list(&shares(seen, OWN)), list(&shares(seen, FAR)));
     let [sends, receives] = [OWN, FAR].map(|i| channel(&seen.channels[i]));
@@ -181,6 +193,8 @@ fn found(figures: &Figures) -> Vec<String> {
         format!("abbrev pub valuesK : List ℕ\nvaluesK = {values_k}\n"),
         format!("unfoldable pub image : Hidden\nimage ={image}\n"),
         format!("unfoldable pub other : List ℕ\nother ={other}\n"),
+        format!("abbrev pub toldAfter : ℕ\ntoldAfter = {after}\n"),
+        format!("abbrev pub toldWord : ℕ\ntoldWord = {word}\n"),
         format!("abbrev pub ownThen : List ℕ\nownThen = {own}\n"),
         format!("abbrev pub farThen : List ℕ\nfarThen = {far}\n"),
         format!("abbrev pub sendsThen : List ℕ\nsendsThen = {sends}\n"),
@@ -199,19 +213,37 @@ pub fn names(text: &str) -> Vec<&str> {
     heads.map(|(name, _)| name).collect()
 }
 
-/// The numbers and names between `NAME =` and the next line that is not indented, comments apart; none unless just one
+/// The lines of a definition: the one that begins with its name, and those below that are indented; none unless just one
 /// line begins so.
-pub fn words<'a>(text: &'a str, name: &str) -> Option<Vec<&'a str>> {
+fn lines_of(lines: &[&str], name: &str) -> Option<Range<usize>> {
     let begin = format!("{name} =");
     let starts = |line: &&str| line.starts_with(&begin);
-    if text.lines().filter(starts).count() != 1 {
-        return None;
-    }
-    let mut lines = text.lines().filter(|line| !line.starts_with("--"));
-    let first = lines.find_map(|line| line.strip_prefix(&begin))?;
-    let rest = lines.take_while(|line| line.is_empty() || line.starts_with(' '));
+    let first = lines.iter().position(starts)?;
+    let indented = |line: &&&str| line.starts_with(' ');
+    let last = first + 1 + lines[first + 1..].iter().take_while(indented).count();
+    let once = !lines[last..].iter().any(starts);
+    once.then_some(first..last)
+}
+
+/// The numbers and names of a definition behind its own.
+pub fn words<'a>(text: &'a str, name: &str) -> Option<Vec<&'a str>> {
+    let lines: Vec<&str> = text.lines().collect();
+    let found = lines_of(&lines, name)?;
     let between = |c: char| c.is_whitespace() || "(){};=".contains(c);
-    let words = once(first).chain(rest).flat_map(|line| line.split(between));
+    let words = lines[found].iter().flat_map(|line| line.split(between));
     let is_word = |word: &&str| !["", "∷", "[]"].contains(word);
     Some(words.filter(is_word).collect())
+}
+
+/// The text with the definitions that are printed in the place of its own of their names.
+pub fn replaced(text: &str, printed: &str) -> String {
+    let mut lines: Vec<&str> = text.lines().collect();
+    let others: Vec<&str> = printed.lines().collect();
+    for name in names(printed) {
+        let (old, new) = (lines_of(&lines, name), lines_of(&others, name));
+        if let (Some(old), Some(new)) = (old, new) {
+            lines.splice(old, others[new].iter().copied());
+        }
+    }
+    lines.join("\n") + "\n"
 }

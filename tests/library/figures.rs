@@ -1,24 +1,33 @@
-//! Figures of 01, by the library alone.
+//! Figures of 01, with the masks of 02, P5, by the library alone.
 
 use crate::interface::{self, survey::BATCH_FIGURES};
 use jobs::tally::Tally;
 use reference::batch::Batch;
-use reference::layout::{ANSWER_WORDS, RECORD_WORDS};
+use reference::layout::{ANSWER_WORDS, RECORD_WORDS, REGISTER_WORDS};
 use reference::machine::Lent;
 
-/// Runs one order on a record with so many items a tape.
-fn answer(order: [u64; 4], record: &mut [u64], items: usize) -> [u64; ANSWER_WORDS] {
-    let ones = vec![1; items];
-    let mut runs = [vec![0; items], vec![0; items], vec![0; items]];
-    let [c0, c1, c2] = &mut runs;
+type Answered = [u64; ANSWER_WORDS];
+
+/// Runs one order on a record with these mask tapes, and gives the answer and channels of their length.
+fn with_items(
+    order: [u64; 4],
+    record: &mut [u64],
+    masks: [Vec<u64>; 3],
+) -> (Answered, [Vec<u64>; 3]) {
+    let mut channels = masks.each_ref().map(|tape| vec![0; tape.len()]);
     let mut lent = Lent {
-        masks: [&ones, &ones, &ones],
+        masks: masks.each_ref().map(Vec::as_slice),
         dealer: &[],
-        channels: [c0, c1, c2],
+        channels: channels.each_mut().map(Vec::as_mut_slice),
     };
     let mut words = [77; ANSWER_WORDS];
     interface::step(&order, record, &mut lent, &mut words);
-    words
+    (words, channels)
+}
+
+/// Runs one order on a record with so many items a tape.
+fn answer(order: [u64; 4], record: &mut [u64], items: usize) -> Answered {
+    with_items(order, record, [0; 3].map(|_| vec![1; items])).0
 }
 
 /// A record with one number in register 0.
@@ -30,7 +39,7 @@ fn holding(width: u64, shares: [u64; 3]) -> Vec<u64> {
 }
 
 /// What kind 5 or 6 of register 0 answers, and what the register then opens to.
-fn opened(width: u64, shares: [u64; 3], kind: u64, field: u64) -> ([u64; ANSWER_WORDS], u64) {
+fn opened(width: u64, shares: [u64; 3], kind: u64, field: u64) -> (Answered, u64) {
     let mut record = holding(width, shares);
     let answered = answer([kind, 0, 0, field], &mut record, 34);
     (answered, answer([9, 0, 0, 0], &mut record, 35)[1])
@@ -57,6 +66,22 @@ fn values(tally: &mut Tally) {
         let found = opened(width, shares, kind, field);
         tally.case(found == ([0, 0, gates], value), || {
             format!("kind {kind} of {shares:?} at {field}: {found:?}")
+        });
+    }
+}
+
+/// 1,2,2 by 3,0,0 with items 10,20,30: the words on the channels are the product's sub-shares, 19, 10, 8177 in ring 13.
+fn products(tally: &mut Tally) {
+    for width in [13, 31, 61] {
+        let mut record = holding(width, [1, 2, 2]);
+        record[REGISTER_WORDS..][..REGISTER_WORDS].copy_from_slice(&[1, width, 3, 0, 0]);
+        let items = [10, 20, 30].map(|item| vec![item]);
+        let (answered, channels) = with_items([4, 2, 0, 1], &mut record, items);
+        let z = [19, 10, (1 << width) - 15];
+        let product = &record[2 * REGISTER_WORDS..][2..REGISTER_WORDS];
+        let found = (answered, channels.concat(), product);
+        tally.case(found == ([0, 0, 1], z.to_vec(), &z), || {
+            format!("a product in ring {width}: {found:?}")
         });
     }
 }
@@ -133,6 +158,7 @@ fn batches(tally: &mut Tally) {
 
 pub fn run(tally: &mut Tally) {
     values(tally);
+    products(tally);
     counts(tally);
     batches(tally);
 }

@@ -3,13 +3,13 @@
 use crate::record::Shares;
 
 /// The words z_0, z_1, z_2 that the parties send.
-/// 01: "z_i = x_i y_i + x_i y_(i+1) + x_(i+1) y_i + t_i - t_(i+1)".
+/// 01, with the masks of 02, P5: z_i = x_i y_i + x_i y_(i+1) + x_(i+1) y_i + t_(i+1) - t_i.
 pub fn words(modulus: u64, x: Shares, y: Shares, t: Shares) -> Shares {
     let m = u128::from(modulus);
     let [x, y, t] = [x, y, t].map(|shares| shares.map(u128::from));
     [(0, 1), (1, 2), (2, 0)].map(|(i, next)| {
         let products = x[i] * y[i] + x[i] * y[next] + x[next] * y[i];
-        ((products + t[i] + (m - t[next])) % m) as u64
+        ((products + t[next] + (m - t[i])) % m) as u64
     })
 }
 

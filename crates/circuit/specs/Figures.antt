@@ -59,8 +59,8 @@ figures =
     ∷ row (converted 31 8000 100 96) (5 ∷ [])
     ∷ row (converted 31 2048 0 0) (2147477504 ∷ [])
     ∷ row (converted 13 2048 0 0) (2048 ∷ [])
-    -- products of 1,2,2 and 3,0,0 with items 10,20,30
-    ∷ row (listed (gated (modulus 13) (three 1 2 2) (three 3 0 0) (three 10 20 30))) (8190 ∷ 8181 ∷ 26 ∷ [])
+    -- products of 1,2,2 and 3,0,0 with items 10,20,30; 02, P5: "the words become 19, 10 and 8177"
+    ∷ row (listed (gated (modulus 13) (three 1 2 2) (three 3 0 0) (three 10 20 30))) (19 ∷ 10 ∷ 8177 ∷ [])
     -- bits 1,0,1 and 1,1,0 with items 0,1,1
     ∷ row (listed (gated 2 (three 1 0 1) (three 1 1 0) (three 0 1 1))) (1 ∷ 1 ∷ 0 ∷ [])
     ∷ []

@@ -10,7 +10,7 @@ use Rattle.machine.specs.Checks.{Tapes}
 use Rattle.act.specs.Jobs.{View, views}
 use Rattle.protocol.specs.Orders.{Seen}
 use Rattle.example.specs.Example.{J, K, T}
-use Rattle.example.specs.Figures.{Line, image, lackedChannels, lackedShares, other, table, viewThen, withHidden, withoutReceived}
+use Rattle.example.specs.Figures.{Line, image, lackedChannels, lackedShares, other, table, toldAfter, toldWord, viewThen, withHidden, withoutReceived}
 use Rattle.example.proofs.Example.{course-open}
 
 -- word k of list n
@@ -46,7 +46,7 @@ pub same-but-received : map withoutReceived (views p1 J T) ≡ map withoutReceiv
 unfolding course-open other
 same-but-received = refl
 
--- with them it can: word 18 after the shift
+-- with them it can: at the word that is another
 pub received-tells : views p1 J T ≡ views p1 J otherwise → ⊥
 unfolding course-open other
-received-tells e = eqb-false _ _ refl (ap (λ (vs : List (View Seen)). at 10 18 (map (λ (v : View Seen). v .receives) vs)) e)
+received-tells e = eqb-false _ _ refl (ap (λ (vs : List (View Seen)). at toldAfter toldWord (map (λ (v : View Seen). v .receives) vs)) e)

@@ -102,13 +102,13 @@ image =
     record {
       dealer = 7999 ∷ 100 ∷ 4001 ∷ 8000 ∷ 18446744073709551615 ∷ [];
       lacked =
-          4873
-          ∷ 1 ∷ 0 ∷ 0 ∷ 1 ∷ 1 ∷ 0 ∷ 1 ∷ 0 ∷ 1 ∷ 1
-          ∷ 1 ∷ 1753981654 ∷ 210564253 ∷ 965626409 ∷ 24672076
-          ∷ 1 ∷ 0 ∷ 1 ∷ 1 ∷ 1 ∷ 1 ∷ 1 ∷ 1 ∷ 0 ∷ 0 ∷ 0 ∷ 1 ∷ 1 ∷ 0 ∷ 0 ∷ 0 ∷ 0
-          ∷ 0 ∷ 0 ∷ 1 ∷ 1 ∷ 1 ∷ 1 ∷ 0 ∷ 0 ∷ 0 ∷ 0 ∷ 0 ∷ 1 ∷ 0 ∷ 1 ∷ 0 ∷ 0 ∷ 0 ∷ 6702 ∷ 400
-          ∷ 7886 ∷ 5772 ∷ 4286 ∷ 7264 ∷ 5492 ∷ 840
-          ∷ 1 ∷ 1 ∷ 1 ∷ 0 ∷ 0 ∷ 1 ∷ 1 ∷ 1 ∷ 0 ∷ 1
+          742
+          ∷ 1 ∷ 1 ∷ 0 ∷ 0 ∷ 1 ∷ 1 ∷ 0 ∷ 0 ∷ 0 ∷ 0
+          ∷ 1 ∷ 976971716 ∷ 1138335978 ∷ 936228566 ∷ 358704907
+          ∷ 1 ∷ 0 ∷ 0 ∷ 1 ∷ 0 ∷ 0 ∷ 0 ∷ 0 ∷ 0 ∷ 1 ∷ 1 ∷ 1 ∷ 1 ∷ 0 ∷ 0 ∷ 0 ∷ 0 ∷ 0
+          ∷ 0 ∷ 0 ∷ 1 ∷ 0 ∷ 0 ∷ 1 ∷ 0 ∷ 1 ∷ 0 ∷ 0 ∷ 0 ∷ 0 ∷ 1 ∷ 0 ∷ 1 ∷ 1 ∷ 2472 ∷ 1077
+          ∷ 2667 ∷ 7699 ∷ 3224 ∷ 718 ∷ 4972 ∷ 1273
+          ∷ 1 ∷ 1 ∷ 1 ∷ 0 ∷ 1 ∷ 1 ∷ 1 ∷ 0 ∷ 0 ∷ 0
           ∷ 18446744073709551615 ∷ 0 ∷ [];
     }
 
@@ -121,16 +121,16 @@ lackedChannels U J T = map (λ (o : Outcome Machine). o .channels (lackedBy U)) 
 
 -- what party 1 sees after the sixth order, the multiplication: its two sub-shares of every register, channels 1 and 2
 abbrev pub ownThen : List ℕ
-ownThen = 100 ∷ 8000 ∷ 8100 ∷ 5427 ∷ 5226 ∷ 0 ∷ 0 ∷ 0 ∷ 0 ∷ 0 ∷ 0 ∷ 0 ∷ 0 ∷ 0 ∷ 0 ∷ 0 ∷ []
+ownThen = 100 ∷ 8000 ∷ 8100 ∷ 5427 ∷ 870 ∷ 0 ∷ 0 ∷ 0 ∷ 0 ∷ 0 ∷ 0 ∷ 0 ∷ 0 ∷ 0 ∷ 0 ∷ 0 ∷ []
 
 abbrev pub farThen : List ℕ
-farThen = 96 ∷ 4389 ∷ 4485 ∷ 4227 ∷ 7780 ∷ 0 ∷ 0 ∷ 0 ∷ 0 ∷ 0 ∷ 0 ∷ 0 ∷ 0 ∷ 0 ∷ 0 ∷ 0 ∷ []
+farThen = 96 ∷ 4389 ∷ 4485 ∷ 4227 ∷ 7219 ∷ 0 ∷ 0 ∷ 0 ∷ 0 ∷ 0 ∷ 0 ∷ 0 ∷ 0 ∷ 0 ∷ 0 ∷ 0 ∷ []
 
 abbrev pub sendsThen : List ℕ
-sendsThen = 4485 ∷ 5226 ∷ replicate 70 1
+sendsThen = 4485 ∷ 870 ∷ replicate 70 1
 
 abbrev pub receivesThen : List ℕ
-receivesThen = 3809 ∷ 7780 ∷ replicate 70 4
+receivesThen = 3809 ∷ 7219 ∷ replicate 70 4
 
 abbrev pub viewThen : View Seen
 viewThen =
@@ -156,14 +156,21 @@ viewThen =
 abbrev pub withoutReceived : View Seen → View Seen
 withoutReceived v = view (v .seen) (v .sends) [] (v .refusal) (v .value) (v .gates)
 
--- mask tape 0 with another item at one gate of the shift: party 1, which lacks it, receives one other word, and sees nothing else of it
+-- another mask tape 0: party 1, which lacks it, receives one other word at the gates, and sees nothing else of it
 unfoldable pub other : List ℕ
 other =
-    975
-    ∷ 1 ∷ 0 ∷ 0 ∷ 1 ∷ 1 ∷ 1 ∷ 0 ∷ 0 ∷ 0 ∷ 0
-    ∷ 1 ∷ 1753981654 ∷ 210564253 ∷ 965626409 ∷ 24672076
-    ∷ 1 ∷ 0 ∷ 0 ∷ 1 ∷ 1 ∷ 1 ∷ 1 ∷ 1 ∷ 0 ∷ 1 ∷ 0 ∷ 1 ∷ 1 ∷ 1 ∷ 0 ∷ 1 ∷ 0
-    ∷ 1 ∷ 1 ∷ 1 ∷ 1 ∷ 0 ∷ 1 ∷ 1 ∷ 0 ∷ 1 ∷ 1 ∷ 1 ∷ 1 ∷ 1 ∷ 1 ∷ 0 ∷ 0 ∷ 0 ∷ 6702 ∷ 400
-    ∷ 7886 ∷ 5772 ∷ 4286 ∷ 7264 ∷ 5492 ∷ 840
-    ∷ 1 ∷ 1 ∷ 1 ∷ 0 ∷ 0 ∷ 1 ∷ 1 ∷ 1 ∷ 0 ∷ 1
+    4640
+    ∷ 1 ∷ 1 ∷ 0 ∷ 0 ∷ 1 ∷ 1 ∷ 1 ∷ 0 ∷ 1 ∷ 0
+    ∷ 1 ∷ 976971716 ∷ 1138335978 ∷ 936228566 ∷ 358704907
+    ∷ 1 ∷ 1 ∷ 1 ∷ 1 ∷ 0 ∷ 1 ∷ 0 ∷ 0 ∷ 0 ∷ 0 ∷ 1 ∷ 1 ∷ 0 ∷ 1 ∷ 1 ∷ 1 ∷ 0 ∷ 1
+    ∷ 0 ∷ 1 ∷ 1 ∷ 1 ∷ 1 ∷ 1 ∷ 1 ∷ 1 ∷ 0 ∷ 1 ∷ 0 ∷ 1 ∷ 0 ∷ 0 ∷ 1 ∷ 1 ∷ 2472 ∷ 1077
+    ∷ 2667 ∷ 7700 ∷ 3224 ∷ 718 ∷ 4972 ∷ 1273
+    ∷ 1 ∷ 1 ∷ 1 ∷ 0 ∷ 1 ∷ 1 ∷ 1 ∷ 0 ∷ 0 ∷ 0
     ∷ 18446744073709551615 ∷ 0 ∷ []
+
+-- where it shows: the order and the word received, counted from 0
+abbrev pub toldAfter : ℕ
+toldAfter = 10
+
+abbrev pub toldWord : ℕ
+toldWord = 22

@@ -12,13 +12,13 @@ use Rattle.gate.specs.Theorems.{ItemOfWord, ItemsFit, Masks, MasksCancel
 masks-cong : (m : ℕ) → 0 < m → (t : Place → ℕ) → Cong m (mask m (held t p0) + mask m (held t p1) + mask m (held t p2)) 0
 unfolding mask
 masks-cong m h t =
-    let d₀ = diff m (t p0) (t p1) in
-    let d₁ = diff m (t p1) (t p2) in
-    let d₂ = diff m (t p2) (t p0) in
-    let s = t p0 + t p1 + t p2 in
-    let sums : Cong m ((d₀ + t p1) + (d₁ + t p2) + (d₂ + t p0)) s
-    = cong-add (cong-add (diff-add m (t p0) (t p1) h) (diff-add m (t p1) (t p2) h)) (diff-add m (t p2) (t p0) h) in
-    let left : d₀ + d₁ + d₂ + s ≡ (d₀ + t p1) + (d₁ + t p2) + (d₂ + t p0) = omega arith in
+    let d₀ = diff m (t p1) (t p0) in
+    let d₁ = diff m (t p2) (t p1) in
+    let d₂ = diff m (t p0) (t p2) in
+    let s = t p1 + t p2 + t p0 in
+    let sums : Cong m ((d₀ + t p0) + (d₁ + t p1) + (d₂ + t p2)) s
+    = cong-add (cong-add (diff-add m (t p1) (t p0) h) (diff-add m (t p2) (t p1) h)) (diff-add m (t p0) (t p2) h) in
+    let left : d₀ + d₁ + d₂ + s ≡ (d₀ + t p0) + (d₁ + t p1) + (d₂ + t p2) = omega arith in
     let right : s ≡ 0 + s = omega arith in
     cong-cancel s h (cong-trans (cong-of-eq left) (cong-trans sums (cong-of-eq right)))
 
@@ -51,23 +51,17 @@ multiplies m h x y t =
     let reduced : Cong m (X % m * (Y % m)) (X * Y) = cong-mul (cong-mod m X) (cong-mod m Y) in
     cong-trans words (cong-trans (cong-of-eq apart) (cong-trans unmasked (cong-sym reduced))) .same
 
--- what is left of own after d is taken from it is d's partner
-taken-twice : (m own d : ℕ) → 0 < m → d < m → diff m own (diff m own d) ≡ d
-taken-twice m own d h below =
-    let swap : d + diff m own d ≡ diff m own d + d = omega arith in
-    sym (diff-only (diff m own d) h below (cong-trans (cong-of-eq swap) (diff-add m own d h)))
-
 pub unmasks : Unmasks
 unfolding mask unmask
-unmasks m h own far below = taken-twice m own far h below
+unmasks m h own far below = sym (cong-below below (cong-sym (diff-add m far own h)))
 
 pub masks : Masks
 unfolding mask unmask
-masks m h own d below = taken-twice m own d h below
+masks m h own d below = sym (diff-only own h below (cong-sym (cong-mod m (d + own))))
 
 mask-lt : (m : ℕ) → 0 < m → (t : Pair) → mask m t < m
 unfolding mask
-mask-lt m h t = diff-lt m (t .own) (t .far) h
+mask-lt m h t = diff-lt m (t .far) (t .own) h
 
 pub item-of-word : ItemOfWord
 unfolding item word
@@ -90,4 +84,4 @@ word-of-item m h x y own z below =
 
 pub items-fit : ItemsFit
 unfolding item unmask
-items-fit m h x y own z = diff-lt m own (diff m z (crossed x y)) h
+items-fit m h x y own z = mod-lt (diff m z (crossed x y) + own) h

@@ -12,10 +12,10 @@ use Rattle.gate.specs.Places.{InRange, Pair, PairBelow, Place, held, nex
 use Rattle.gate.specs.declared.sharing.Sharing.{Sharing}
 
 -- the mask, not reduced
-pub mask-near : (p t tf : ℕ) → tf < p → Cong p (t + (p - tf)) (mask p (pair t tf))
+pub mask-near : (p t tf : ℕ) → t < p → Cong p (tf + (p - t)) (mask p (pair t tf))
 unfolding mask diff
 mask-near p t tf below =
-    cong-trans (cong-of-eq (ap (λ (n : ℕ). t + (p - n)) (sym (mod-eq-of-lt below)))) (cong-sym (cong-mod p (t + (p - tf % p))))
+    cong-trans (cong-of-eq (ap (λ (n : ℕ). tf + (p - n)) (sym (mod-eq-of-lt below)))) (cong-sym (cong-mod p (tf + (p - t % p))))
 
 -- a word from a number n that stands for its products, and one that stands for its mask
 word-from : (m x xf y yf t tf n : ℕ) {d : ℕ}

@@ -1,15 +1,15 @@
--- 01, "The gate".
+-- 01, "The gate", with the masks of 02, P5.
 use Prim.Native.Nat.{ℕ, _+_, _*_, _%_}
 use Rattle.ring.specs.Modular.{diff}
 use Rattle.gate.specs.Places.{Pair, Place, held, tabled}
 
--- t_i - t_(i+1)
+-- t_(i+1) - t_i
 unfoldable pub mask : ℕ → Pair → ℕ
-mask m t = diff m (t .own) (t .far)
+mask m t = diff m (t .far) (t .own)
 
 -- t_(i+1) from t_i and that mask
 unfoldable pub unmask : ℕ → ℕ → ℕ → ℕ
-unmask m own d = diff m own d
+unmask m own d = (d + own) % m
 
 -- x_i y_i + x_i y_(i+1) + x_(i+1) y_i
 unfoldable pub crossed : Pair → Pair → ℕ

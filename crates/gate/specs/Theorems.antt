@@ -16,7 +16,7 @@ WordsFit = (m : ℕ) → 0 < m → (x y t : Place → ℕ) → Below m (gated m 
 abbrev pub MasksCancel : Type 0
 MasksCancel = (m : ℕ) → 0 < m → (t : Place → ℕ) → (mask m (held t p0) + mask m (held t p1) + mask m (held t p2)) % m ≡ 0
 
--- a mask and the item it subtracts determine each other
+-- a mask and the item it adds determine each other
 abbrev pub Unmasks : Type 0
 Unmasks = (m : ℕ) → 0 < m → (own far : ℕ) → far < m → unmask m own (mask m (pair own far)) ≡ far
 

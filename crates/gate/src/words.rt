@@ -11,14 +11,14 @@ use ring::mul_add_mod;
 use ring::reduce_once;
 use ring::reduce_short;
 
-// t_i - t_(i+1) modulo p, not reduced.
+// t_(i+1) - t_i modulo p, not reduced.
 fn mask_word(p: u64, t: u64, tf: u64) -> u64
     requires room { ⌜ p ≤ 2 ^ 63 ⌝ }
     requires items { ⌜ PairBelow p (pair t tf) ⌝ }
     ensures is { λ d. ⌜ Cong p d (mask p (pair t tf)) ⌝ }
     ensures below { λ d. ⌜ d < p + p ⌝ }
 {
-    t + (p - tf)
+    tf + (p - t)
 }
 
 // z_i modulo p = 2^e - 1, from the sub-shares i and i + 1 of x, of y and of the items.

@@ -9,4 +9,4 @@ mask-word-spec =
     (tie.spec
     (λ c. omega (arith, c .pre .1))
     (λ c. omega (arith, c .pre .1))
-    (λ c. (mask-near (c .args .p) (c .args .t) (c .args .tf) (c .pre .1 .far), omega (arith, c .pre .1))))
+    (λ c. (mask-near (c .args .p) (c .args .t) (c .args .tf) (c .pre .1 .own), omega (arith, c .pre .1))))
