@@ -118,6 +118,8 @@ enum {
  * Carries out one order. Reads the three mask tapes (01's strands) m0 to m2 and the dealer's tape; writes the record,
  * the three channels (01's wires) c0 to c2 and the answer. Returns the refusal or 0, which is the answer's first word too
  * but for SURVEY_MALFORMED.
+ * At a gate on x and y, channel i gets x_i y_i + x_i y_(i+1) + x_(i+1) y_i + t_(i+1) - t_i, modulo the ring's modulus or,
+ * on bits, modulo 2; t_i is the item of mask tape i. Old units send the same words (02, P5).
  */
 uint64_t survey_step(const uint64_t *order, size_t order_length,
                      uint64_t *record, size_t record_length,

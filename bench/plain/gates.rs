@@ -59,7 +59,8 @@ impl<'a> Lent<'a> {
     pub fn gate_of_bits(&mut self, k: usize, r: Ring, b0: u64, b1: u64) -> Sharing {
         let [t0, t1, t2] = self.items(k);
         let z0 = r.reduce((b0 & b1) + mask(r, t0, t1));
-        let [z1, z2] = [mask(r, t1, t2), mask(r, t2, t0)].map(|d| r.reduce_once(d));
+        let z1 = r.reduce_once(mask(r, t1, t2));
+        let z2 = r.reduce_once(mask(r, t2, t0));
         self.send(k, [z0, z1, z2])
     }
 

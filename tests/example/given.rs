@@ -1,12 +1,11 @@
 //! The two jobs of the example and the tapes of a run of each.
 
-use crate::runs::{gates, run, Entry, Job, Tapes};
+use crate::runs::{end, gates, run, Entry, Job, Tapes};
 use jobs::draw::Draw;
 use reference::order::Order;
 
-/// Words of each channel, and items of each mask tape.
-const CHANNEL: usize = 72;
-const TAPE: usize = 70;
+/// An order is lent all items.
+const ALL: Option<usize> = None;
 
 /// The dealer's tape of the run of J.
 const DEALER: [u64; 5] = [8000, 100, 4000, 8000, u64::MAX];
@@ -14,38 +13,53 @@ const DEALER: [u64; 5] = [8000, 100, 4000, 8000, u64::MAX];
 /// The mask items that a gate takes are drawn.
 const SEED: u64 = 1;
 
+/// Gates and openings of a job, at most.
+const MOST: usize = 512;
+
 /// The items that nothing takes.
 const LEFT: [[u64; 2]; 3] = [[u64::MAX, 0], [6, u64::MAX], [7, 8]];
 
 /// An order by its kind and fields.
-fn lending(lent: usize, kind: u64, fields: &[u64]) -> Entry {
+fn lending(lent: Option<usize>, kind: u64, fields: &[u64]) -> Entry {
     let order = Order::new(kind, fields).expect("one of the nine kinds");
     Entry { order, lent }
 }
 
-/// The job that deals a and b. Register 9 is empty, and the first shift is lent too few items.
+/// Tapes with which all is accepted that can be, so that a run shows what is public of a job.
+fn zeros() -> Tapes {
+    Tapes {
+        masks: [0; 3].map(|_| vec![0; MOST]),
+        dealer: DEALER.to_vec(),
+    }
+}
+
+/// The job that deals a and b, with channels of a word more than it writes. Register 9 is empty, and the first shift is
+/// lent too few items.
 fn dealing(a: u64, b: u64) -> Job {
     let entries = vec![
-        lending(TAPE, 1, &[0, 13, a]),
-        lending(TAPE, 1, &[1, 13, b]),
-        lending(TAPE, 2, &[2, 0, 1]),
-        lending(TAPE, 9, &[2]),
-        lending(TAPE, 3, &[3, 0, 300]),
-        lending(TAPE, 4, &[4, 0, 1]),
-        lending(20, 5, &[5, 0, 3]),
-        lending(TAPE, 9, &[9]),
-        lending(TAPE, 6, &[6, 0, 31]),
-        lending(30, 7, &[7, 3, 10]),
-        lending(TAPE, 7, &[7, 3, 10]),
-        lending(TAPE, 8, &[8, 5, 13]),
-        lending(TAPE, 9, &[7]),
-        lending(TAPE, 5, &[10, 2, 3]),
-        lending(TAPE, 9, &[10]),
+        lending(ALL, 1, &[0, 13, a]),
+        lending(ALL, 1, &[1, 13, b]),
+        lending(ALL, 2, &[2, 0, 1]),
+        lending(ALL, 9, &[2]),
+        lending(ALL, 3, &[3, 0, 300]),
+        lending(ALL, 4, &[4, 0, 1]),
+        lending(Some(20), 5, &[5, 0, 3]),
+        lending(ALL, 9, &[9]),
+        lending(ALL, 6, &[6, 0, 31]),
+        lending(Some(30), 7, &[7, 3, 10]),
+        lending(ALL, 7, &[7, 3, 10]),
+        lending(ALL, 8, &[8, 5, 13]),
+        lending(ALL, 9, &[7]),
+        lending(ALL, 5, &[10, 2, 3]),
+        lending(ALL, 9, &[10]),
     ];
-    Job {
-        entries,
-        channels: [3, 1, 4].map(|word| vec![word; CHANNEL]),
+    let channels = [3, 1, 4].map(|word| vec![word; MOST]);
+    let mut job = Job { entries, channels };
+    let written = end(&run(&job, &zeros())).record.channels as usize;
+    for channel in &mut job.channels {
+        channel.truncate(written + 1);
     }
+    job
 }
 
 pub fn job_j() -> Job {
@@ -56,12 +70,9 @@ pub fn job_k() -> Job {
     dealing(4, 8)
 }
 
-/// The tapes of the run of J. Moduli are public, so a run on tapes of zeros shows them.
+/// The tapes of the run of J.
 pub fn tapes_j() -> Tapes {
-    let dealer = DEALER.to_vec();
-    let masks = [0; 3].map(|_| vec![0; TAPE]);
-    let zeros = Tapes { masks, dealer };
-    let gates = gates(&run(&job_j(), &zeros));
+    let gates = gates(&run(&job_j(), &zeros()));
     let mut draw = Draw::new(SEED);
     let masks = LEFT.map(|left| {
         let taken = gates.iter().map(|gate| draw.below(gate.modulus));

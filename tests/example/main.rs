@@ -62,37 +62,51 @@ fn figures() -> Figures {
     }
 }
 
-/// What must hold of the figures.
+/// Takes a claim, and whether it holds.
+type Claim<'a> = dyn FnMut(&str, bool) + 'a;
+
+/// What must hold of the two runs.
 fn claims(figures: &Figures, tally: &mut Tally) {
-    let (tapes, mut others) = (&figures.tapes_j, figures.tapes_j.clone());
-    others.masks[LACKED] = figures.other.clone();
-    let (j, k) = (run(&job_j(), tapes), run(&job_k(), &figures.tapes_k));
-    let (image, other) = (run(&job_k(), &figures.image), run(&job_j(), &others));
+    let j = run(&job_j(), &figures.tapes_j);
+    let k = run(&job_k(), &figures.tapes_k);
     let mut claim = |text: &str, holds: bool| tally.case(holds, || text.to_string());
+    claim("J is fair", is_fair(&j));
+    claim("K is fair", is_fair(&k));
     claim("both runs answer the same", table(&j) == table(&k));
-    for (name, course) in [("J", &j), ("K", &k), ("image", &image), ("other", &other)] {
-        claim(&format!("{name} is fair"), is_fair(course));
-    }
-    let received = channel(&j, FAR);
-    claim("image: sees the same", views(&j) == views(&image));
-    claim("image: receives the same", received == channel(&image, FAR));
+    let refused = figures.table.iter().filter(|line| line[1] != 0);
+    claim(
+        "an opening meets 3, a shift 9",
+        refused.map(|line| &line[..2]).eq([[9, 3], [7, 9]]),
+    );
+    image_claims(figures, &j, &mut claim);
+    other_claims(figures, &j, &mut claim);
+}
+
+fn image_claims(figures: &Figures, j: &[Outcome], claim: &mut Claim) {
+    let image = run(&job_k(), &figures.image);
+    let [received, lacked] = [FAR, LACKED].map(|i| (channel(j, i), channel(&image, i)));
+    let [theirs, ours] = [&figures.image, &figures.tapes_j].map(|tapes| &tapes.masks[1..]);
+    claim("image is fair", is_fair(&image));
+    claim("image: sees the same", views(j) == views(&image));
+    claim("image: receives the same", received.0 == received.1);
     claim(
         "image: another sub-share",
-        shares(end(&j), LACKED) != shares(end(&image), LACKED),
+        shares(end(j), LACKED) != shares(end(&image), LACKED),
     );
+    claim("image: another channel", lacked.0 != lacked.1);
+    claim("image: party 1's own tapes", theirs == ours);
+}
+
+fn other_claims(figures: &Figures, j: &[Outcome], claim: &mut Claim) {
+    let mut tapes = figures.tapes_j.clone();
+    tapes.masks[LACKED] = figures.other.clone();
+    let other = run(&job_j(), &tapes);
+    let [words, others] = [j, &other].map(|course| end(course).channels[FAR].iter());
+    claim("other is fair", is_fair(&other));
+    claim("other: sees the same", views(j) == views(&other));
     claim(
-        "image: another channel",
-        channel(&j, LACKED) != channel(&image, LACKED),
-    );
-    claim(
-        "image: party 1's own tapes",
-        figures.image.masks[1..] == tapes.masks[1..],
-    );
-    claim("other: another tape", figures.other != tapes.masks[LACKED]);
-    claim("other: sees the same", views(&j) == views(&other));
-    claim(
-        "other: receives another word",
-        received != channel(&other, FAR),
+        "other: receives one other word",
+        words.zip(others).filter(|(a, b)| a != b).count() == 1,
     );
 }
 
@@ -109,9 +123,10 @@ fn check(printed: &str, files: &[String], tally: &mut Tally) {
 }
 
 fn write(printed: &str, files: &[String]) -> std::io::Result<()> {
-    for file in files {
-        let text = std::fs::read_to_string(file)?;
-        std::fs::write(file, replaced(&text, printed))?;
+    let read = |file: &String| std::fs::read_to_string(file);
+    let texts = files.iter().map(read).collect::<Result<Vec<_>, _>>()?;
+    for (file, text) in files.iter().zip(&texts) {
+        std::fs::write(file, replaced(text, printed))?;
     }
     Ok(())
 }
@@ -124,7 +139,10 @@ fn main() {
     let words: Vec<String> = std::env::args().skip(1).collect();
     match (words.first().map(String::as_str), tally.failed()) {
         (Some("check"), _) => check(&printed, &words[1..], &mut tally),
-        (Some("write"), 0) => return write(&printed, &words[1..]).expect("text files"),
+        (Some("write"), 0) => {
+            write(&printed, &words[1..]).expect("text files");
+            check(&printed, &words[1..], &mut tally);
+        }
         (None, 0) => return print!("{printed}"),
         (Some("write") | None, _) => {}
         (Some(_), _) => panic!("write FILE..., check FILE..., or nothing"),

@@ -11,10 +11,17 @@ pub const FAR: usize = 2;
 /// Sub-share, mask tape and channel that it does not see.
 pub const LACKED: usize = 0;
 
-/// An order, and how many items of each mask tape it is lent; of the dealer's tape it is lent all.
+/// An order, and how many items of each mask tape it is lent, all where there is no number; of the dealer's tape it is
+/// lent all.
 pub struct Entry {
     pub order: Order,
-    pub lent: usize,
+    pub lent: Option<usize>,
+}
+
+impl Entry {
+    pub fn lent_of<'a>(&self, tape: &'a [u64]) -> &'a [u64] {
+        &tape[..self.lent.unwrap_or(tape.len())]
+    }
 }
 
 pub struct Job {
@@ -43,7 +50,7 @@ pub fn run(job: &Job, tapes: &Tapes) -> Vec<Outcome> {
     let outcome = |entry: &Entry| {
         let before = record.clone();
         let mut lent = Lent {
-            masks: tapes.masks.each_ref().map(|tape| &tape[..entry.lent]),
+            masks: tapes.masks.each_ref().map(|tape| entry.lent_of(tape)),
             dealer: &tapes.dealer,
             channels: channels.each_mut().map(Vec::as_mut_slice),
         };

@@ -1,4 +1,4 @@
-//! The figures as definitions, and the words of a definition in a text.
+//! The figures as definitions, and definitions in a text: their words, and others in their place.
 
 use crate::runs::{shares, Entry, Job, Outcome, Tapes, FAR, OWN};
 use reference::order::Order;
@@ -107,24 +107,26 @@ fn tapes(tapes: &Tapes, named: &Tapes) -> String {
     format!("record {{ masks = three {masks}; dealer = {dealer} }}")
 }
 
-fn entry(entry: &Entry) -> String {
+fn entry(entry: &Entry, tape: &[u64]) -> String {
     let [kind, fields @ ..] = entry.order.words();
     let count = if kind == 9 { 1 } else { 3 };
     let fields = fields[..count].iter().map(|field| format!(" {field}"));
     let order = KINDS[kind as usize - 1].to_string() + &fields.collect::<String>();
-    format!("lending {} ({order})", entry.lent)
+    format!("lending {} ({order})", entry.lent_of(tape).len())
 }
 
 /// A deal of the number of that name.
-fn deal(entry: &Entry, v: &str) -> String {
+fn deal(entry: &Entry, tape: &[u64], v: &str) -> String {
     let Order::Deal { d, e, .. } = entry.order else {
         unreachable!("the job begins with two deals");
     };
-    format!("lending {} (Deal {d} {e} {v})", entry.lent)
+    let lent = entry.lent_of(tape).len();
+    format!("lending {lent} (Deal {d} {e} {v})")
 }
 
 fn dealing(job: &Job, tapes: &Tapes) -> String {
-    let (a, b) = (deal(&job.entries[0], "a"), deal(&job.entries[1], "b"));
+    let deal = |k: usize, v: &str| deal(&job.entries[k], &tapes.masks[0], v);
+    let (a, b) = (deal(0, "a"), deal(1, "b"));
     let channels = job.channels.each_ref().map(|words| channel(words));
     let channels = channels.map(|words| format!("({words})")).join(" ");
     let masks = tapes.masks.each_ref().map(|tape| tape.len().to_string());
@@ -154,6 +156,7 @@ fn given(figures: &Figures) -> Vec<String> {
     let (job, run) = (&figures.job_j, &figures.tapes_j);
     let lent = run.dealer.len();
     let lending = format!("record {{ act = o; masksLent = three n n n; dealerLent = {lent} }}");
+    let entry = |order: &Entry| entry(order, &run.masks[0]);
     let after_deals = lines(job.entries[2..].iter().map(entry));
     let dealing = dealing(job, run);
     let (j, k) = (dealt(job), dealt(&figures.job_k));
@@ -213,24 +216,33 @@ pub fn names(text: &str) -> Vec<&str> {
     heads.map(|(name, _)| name).collect()
 }
 
-/// The lines of a definition: the one that begins with its name, and those below that are indented; none unless just one
-/// line begins so.
+fn is_comment(line: &str) -> bool {
+    line.trim_start().starts_with("--")
+}
+
+/// The lines of a definition: from the one that begins with its name to the last that is indented, before the next that is
+/// neither indented, empty nor a comment; none unless just one line begins so.
 fn lines_of(lines: &[&str], name: &str) -> Option<Range<usize>> {
     let begin = format!("{name} =");
     let starts = |line: &&str| line.starts_with(&begin);
+    let indented = |line: &&str| line.starts_with(' ');
     let first = lines.iter().position(starts)?;
-    let indented = |line: &&&str| line.starts_with(' ');
-    let last = first + 1 + lines[first + 1..].iter().take_while(indented).count();
-    let once = !lines[last..].iter().any(starts);
-    once.then_some(first..last)
+    let rest = &lines[first + 1..];
+    let inside = |line: &&str| indented(line) || line.is_empty() || is_comment(line);
+    let next = rest.iter().position(|line| !inside(line));
+    let body = &rest[..next.unwrap_or(rest.len())];
+    let length = body.iter().rposition(indented).map_or(0, |last| last + 1);
+    let once = !rest.iter().any(starts);
+    once.then_some(first..first + 1 + length)
 }
 
-/// The numbers and names of a definition behind its own.
+/// The numbers and names of a definition, its own first, comments apart.
 pub fn words<'a>(text: &'a str, name: &str) -> Option<Vec<&'a str>> {
     let lines: Vec<&str> = text.lines().collect();
     let found = lines_of(&lines, name)?;
     let between = |c: char| c.is_whitespace() || "(){};=".contains(c);
-    let words = lines[found].iter().flat_map(|line| line.split(between));
+    let said = lines[found].iter().filter(|line| !is_comment(line));
+    let words = said.flat_map(|line| line.split(between));
     let is_word = |word: &&str| !["", "∷", "[]"].contains(word);
     Some(words.filter(is_word).collect())
 }

@@ -77,7 +77,8 @@ fn products(tally: &mut Tally) {
         record[REGISTER_WORDS..][..REGISTER_WORDS].copy_from_slice(&[1, width, 3, 0, 0]);
         let items = [10, 20, 30].map(|item| vec![item]);
         let (answered, channels) = with_items([4, 2, 0, 1], &mut record, items);
-        let z = [19, 10, (1 << width) - 15];
+        let p = (1 << width) - 1;
+        let z = [19, 10, p - 14];
         let product = &record[2 * REGISTER_WORDS..][2..REGISTER_WORDS];
         let found = (answered, channels.concat(), product);
         tally.case(found == ([0, 0, 1], z.to_vec(), &z), || {

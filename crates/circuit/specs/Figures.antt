@@ -1,4 +1,4 @@
--- 01, "Figures worked by hand": the rows marked (*) that speak of circuits and gates. Proof: proofs/Figures.antt.
+-- 01, "Figures worked by hand": the rows marked (*) that speak of circuits and gates, the product's words by 02, P5. Proof: proofs/Figures.antt.
 -- The whole table, with the rows over `step`, is `machine`'s specs/Figures.antt.
 use Prim.Native.Nat.{ℕ}
 use mathlib.Core.List.{List, [], _∷_, map}
@@ -59,7 +59,7 @@ figures =
     ∷ row (converted 31 8000 100 96) (5 ∷ [])
     ∷ row (converted 31 2048 0 0) (2147477504 ∷ [])
     ∷ row (converted 13 2048 0 0) (2048 ∷ [])
-    -- products of 1,2,2 and 3,0,0 with items 10,20,30; 02, P5: "the words become 19, 10 and 8177"
+    -- products of 1,2,2 and 3,0,0 with items 10,20,30: "the words become 19, 10 and 8177"
     ∷ row (listed (gated (modulus 13) (three 1 2 2) (three 3 0 0) (three 10 20 30))) (19 ∷ 10 ∷ 8177 ∷ [])
     -- bits 1,0,1 and 1,1,0 with items 0,1,1
     ∷ row (listed (gated 2 (three 1 0 1) (three 1 1 0) (three 0 1 1))) (1 ∷ 1 ∷ 0 ∷ [])

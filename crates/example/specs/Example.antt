@@ -9,7 +9,7 @@ use Rattle.machine.specs.declared.orders.Order.the-variants.{Add, Compose, Conv
 use Rattle.act.specs.Jobs.{Entry, Job}
 use Rattle.protocol.specs.Orders.{orders}
 
--- an order that is lent the first n items of each mask tape, and all five of the dealer's
+-- an order that is lent the first n items of each mask tape, and all of the dealer's
 abbrev lending : ℕ → Order → Entry orders
 lending n o = record { act = o; masksLent = three n n n; dealerLent = 5 }
 
@@ -32,7 +32,7 @@ afterDeals =
     ∷ lending 70 (Open 10)
     ∷ []
 
--- the job that deals a and b: channels of 72 words, mask tapes of 70 items, a dealer's tape of 5
+-- the job that deals a and b
 unfoldable pub dealing : ℕ → ℕ → Job orders
 dealing a b =
     record {
@@ -48,7 +48,7 @@ J = dealing 5 7
 abbrev pub K : Job orders
 K = dealing 4 8
 
--- mask tapes: the items that multiply, decompose, convert, shift (two lines), compose and decompose take, and two that nothing takes
+-- mask tapes: a line, or some of one length, for each order that takes items, and one for those that nothing takes
 abbrev tape₀ : List ℕ
 tape₀ =
     4640

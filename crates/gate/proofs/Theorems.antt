@@ -7,7 +7,7 @@ use Rattle.ring.specs.Modular.{Cong, diff}
 use Rattle.ring.proofs.CongLaw.{cong-add, cong-below, cong-cancel, cong-mod, cong-mul, cong-of-eq, cong-refl, cong-sym, cong-trans, diff-add, diff-lt, diff-only}
 use Rattle.gate.specs.Gates.{crossed, gated, item, mask, unmask, word}
 use Rattle.gate.specs.Places.{Pair, Place, held, p0, p1, p2, pair, total}
-use Rattle.gate.specs.Theorems.{ItemOfWord, ItemsFit, Masks, MasksCancel, Multiplies, Unmasks, WordOfItem, WordsFit}
+use Rattle.gate.specs.Theorems.{BitsSame, ItemOfWord, ItemsFit, Masks, MasksCancel, Multiplies, Unmasks, WordOfItem, WordsFit}
 
 masks-cong : (m : ℕ) → 0 < m → (t : Place → ℕ) → Cong m (mask m (held t p0) + mask m (held t p1) + mask m (held t p2)) 0
 unfolding mask
@@ -50,6 +50,10 @@ multiplies m h x y t =
     = cong-trans (cong-add (cong-refl (c₀ + c₁ + c₂)) (masks-cong m h t)) (cong-of-eq product) in
     let reduced : Cong m (X % m * (Y % m)) (X * Y) = cong-mul (cong-mod m X) (cong-mod m Y) in
     cong-trans words (cong-trans (cong-of-eq apart) (cong-trans unmasked (cong-sym reduced))) .same
+
+pub bits-same : BitsSame
+unfolding mask diff
+bits-same own far = omega arith
 
 pub unmasks : Unmasks
 unfolding mask unmask

@@ -1,6 +1,7 @@
 -- What the gate does, for every modulus m and all parts. Proofs: proofs/Theorems.antt.
 use Prim.Native.Nat.{ℕ, _+_, _*_, _%_, _<_}
 use mathlib.Core.Path.{_≡_}
+use Rattle.ring.specs.Modular.{diff}
 use Rattle.gate.specs.Gates.{gated, item, mask, unmask, word}
 use Rattle.gate.specs.Places.{Below, Pair, Place, held, p0, p1, p2, pair, total}
 
@@ -15,6 +16,10 @@ WordsFit = (m : ℕ) → 0 < m → (x y t : Place → ℕ) → Below m (gated m 
 -- the three masks total 0
 abbrev pub MasksCancel : Type 0
 MasksCancel = (m : ℕ) → 0 < m → (t : Place → ℕ) → (mask m (held t p0) + mask m (held t p1) + mask m (held t p2)) % m ≡ 0
+
+-- "Bits don't notice" (02, P5): modulo 2 the mask is 01's, t_i - t_(i+1)
+abbrev pub BitsSame : Type 0
+BitsSame = (own far : ℕ) → mask 2 (pair own far) ≡ diff 2 own far
 
 -- a mask and the item it adds determine each other
 abbrev pub Unmasks : Type 0
