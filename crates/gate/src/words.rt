@@ -114,7 +114,8 @@ pub fn words_of_bits(e: u64, p: u64, b0: u64, b1: u64, t: Sharing) -> Sharing
     }
 }
 
-// z_0, z_1 and z_2 modulo p = 2^e - 1, of x, which need not be reduced, with a bit at place 2.
+// z_0, z_1 and z_2 modulo p = 2^e - 1, of x, which need not be reduced, with a bit at place 2. The last word is made first: the
+// other way round the compiler keeps a counter of composing's loop in memory, a tenth of that order's time.
 pub fn words_by_bit(e: u64, p: u64, x: Sharing, b2: u64, t: Sharing) -> Sharing
     requires sized { ⌜ Sized e p ⌝ }
     requires left { ⌜ InRange (2 * p + 2) x ⌝ }
@@ -123,9 +124,8 @@ pub fn words_by_bit(e: u64, p: u64, x: Sharing, b2: u64, t: Sharing) -> Sharing
     ensures is { λ z. ⌜ z ≡ sharing (gated p (parts x) (three 0 0 b2) (parts t)) ⌝ }
     ensures below { λ z. ⌜ InRange p z ⌝ }
 {
-    Sharing {
-        s0: mask_alone(e, p, t.s0, t.s1),
-        s1: masked(e, p, x.s1 * b2, t.s1, t.s2),
-        s2: masked(e, p, (x.s2 + x.s0) * b2, t.s2, t.s0),
-    }
+    let s2 = masked(e, p, (x.s2 + x.s0) * b2, t.s2, t.s0);
+    let s1 = masked(e, p, x.s1 * b2, t.s1, t.s2);
+    let s0 = mask_alone(e, p, t.s0, t.s1);
+    Sharing { s0, s1, s2 }
 }
