@@ -1,4 +1,6 @@
 // Orders 2 to 8 of 01, once the record has decided: lengths, items, and the gates on lent runs.
+#![tactic(auto)]
+
 mod attempts;
 mod items;
 mod words;

@@ -1,4 +1,6 @@
 // Sixty-four figures decomposed at once: 02, P13.
+#![tactic(auto)]
+
 mod calls;
 mod checks;
 

@@ -1,5 +1,7 @@
 // Lists of gates: what they are, what follows from them for every list, and the sharings that an order's code starts from.
 // The orders' code is in `decompose`, `compose` and `shift`.
+#![tactic(auto)]
+
 mod sharings;
 
 pub use sharings::{four_times, items_at, zeros};

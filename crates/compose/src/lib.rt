@@ -1,4 +1,6 @@
 // Orders 4, 6 and 8 of 01 on lent slices: multiplying, converting to another ring, and composing bits.
+#![tactic(auto)]
+
 mod bits;
 mod quotients;
 mod steps;

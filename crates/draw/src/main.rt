@@ -1,4 +1,6 @@
 // Prints tape lines for a job: `draw RING COUNT masks` or `draw RING COUNT dealer`, from raw bytes on standard input.
+#![tactic(auto)]
+
 ghost use Rattle.std.specs.Prelude.{◌≤◌, length};
 ghost use Rattle.drawing.specs.Asks.{Few};
 
@@ -36,7 +38,7 @@ fn say(text: &[u8]) {
 }
 
 // How many raw bytes were read, and whether the system could read them all.
-#[derive(Drop)]
+#[derive(Clone, Copy)]
 struct Raw {
     count: usize,
     able: bool,

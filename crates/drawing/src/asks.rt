@@ -8,21 +8,21 @@ use line::Reading;
 use ring::{OfWidth, Ring};
 
 // The number of an argument, if it has one that will do.
-#[derive(Drop)]
+#[derive(Clone, Copy)]
 pub enum Number {
     Read(u64),
     NoNumber,
 }
 
 // The kind that a name says, if it says one.
-#[derive(Drop)]
+#[derive(Clone, Copy)]
 pub enum KindRead {
     Found(Kind),
     NoKind,
 }
 
 // A count of lines of a kind for a ring code, or the first argument that will not do.
-#[derive(Drop)]
+#[derive(Clone, Copy)]
 pub enum Asked {
     Lines { code: u64, count: u64, kind: Kind },
     NoRing,

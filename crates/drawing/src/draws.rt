@@ -9,7 +9,7 @@ use crate::raws::raw_words;
 use tape::prepare;
 
 // 01's refusal number of the preparation, or 0, and how many bytes were written.
-#[derive(Drop)]
+#[derive(Clone, Copy)]
 pub struct Drawn {
     pub refusal: u64,
     pub length: usize,

@@ -1,4 +1,6 @@
 // Tape lines of the job program, drawn from raw bytes.
+#![tactic(auto)]
+
 mod asks;
 mod draws;
 mod lines;

@@ -6,7 +6,7 @@ ghost use Rattle.drawing.specs.Lines.{line_of, lines_of, per_line};
 use line::put_field;
 
 // The kinds of tape lines.
-#[derive(Drop)]
+#[derive(Clone, Copy)]
 pub enum Kind {
     Masks,
     Dealer,

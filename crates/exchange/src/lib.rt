@@ -1,4 +1,6 @@
 // Orders 1 and 9 of 01: numbers that come in by a deal and values that go out by an opening.
+#![tactic(auto)]
+
 mod deals;
 mod openings;
 

@@ -1,4 +1,6 @@
 // Sharings of numbers and bits, and the gate that multiplies two of them.
+#![tactic(auto)]
+
 mod gates;
 mod sharing;
 mod words;

@@ -1,4 +1,6 @@
 // The set for programs in other languages: one order on words, one tape, and one batch.
+#![tactic(auto)]
+
 mod batches;
 mod steps;
 mod tapes;

@@ -1,4 +1,6 @@
 // Machine records, orders and answers as 64-bit words.
+#![tactic(auto)]
+
 mod answers;
 mod orders;
 mod records;

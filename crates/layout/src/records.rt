@@ -10,7 +10,7 @@ use machine::{MILLION, Machine, Register};
 use order::Change;
 
 // Whether words say a record, and a sound one.
-#[derive(Drop)]
+#[derive(Clone, Copy)]
 pub struct Seen {
     pub ok: bool,
     pub sound: bool,

@@ -14,7 +14,7 @@ const NUMBER: u64 = 1;
 const BITS: u64 = 2;
 
 // A register, or words that are none.
-#[derive(Drop)]
+#[derive(Clone, Copy)]
 pub enum RegisterRead {
     Found(Register),
     NoRegister,

@@ -5,7 +5,7 @@ ghost use Rattle.line.specs.Lines.{with_one, with_three};
 use machine::{OfKind, Order};
 
 // 01, "The job program": items for the mask tapes or for the dealer's, an order, or no such line.
-#[derive(Drop)]
+#[derive(Clone, Copy)]
 pub enum Command {
     Masks { t0: u64, t1: u64, t2: u64 },
     Dealer { item: u64 },

@@ -1,4 +1,6 @@
 // Job lines: what the bytes of a line say, and the line that is printed.
+#![tactic(auto)]
+
 mod commands;
 mod printing;
 mod readings;

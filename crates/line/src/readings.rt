@@ -8,7 +8,7 @@ use crate::commands::{Command, with_one, with_three};
 
 // What the bytes of a line so far come to: the fields that a comma ended, of which three are kept,
 // the digits of the current field with their value, and whether the line can still be read.
-#[derive(Drop)]
+#[derive(Clone, Copy)]
 pub struct Reading {
     pub commas: u64,
     pub first: u64,
@@ -21,7 +21,7 @@ pub struct Reading {
 }
 
 // A reading, with the index of the byte that it stopped at.
-#[derive(Drop)]
+#[derive(Clone, Copy)]
 pub struct Taken {
     pub reading: Reading,
     pub at: usize,

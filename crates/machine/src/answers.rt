@@ -1,7 +1,7 @@
 // What an order answers.
 
 // 01, "Why an order is refused"; the last is 02's, of a batch.
-#[derive(Drop)]
+#[derive(Clone, Copy)]
 pub enum Refusal {
     Unsound,
     NoRegister,
@@ -18,7 +18,7 @@ pub enum Refusal {
 }
 
 // Done with the value opened, or 0, and the gates spent; or refused.
-#[derive(Drop)]
+#[derive(Clone, Copy)]
 pub enum Answer {
     Done { value: u64, gates: u64 },
     Refused(Refusal),

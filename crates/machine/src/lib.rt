@@ -1,4 +1,6 @@
 // The machine of sixteen registers, its orders and its answers.
+#![tactic(auto)]
+
 mod answers;
 mod kinds;
 mod orders;

@@ -3,7 +3,7 @@ ghost use Rattle.std.specs.Prelude.{◌≡◌};
 ghost use Rattle.machine.specs.Orders.{of_kind};
 
 // 01, "The nine orders": the fields of each kind in its order; d is the destination.
-#[derive(Drop)]
+#[derive(Clone, Copy)]
 pub enum Order {
     Deal { d: u64, e: u64, v: u64 },
     Add { d: u64, x: u64, y: u64 },
@@ -17,7 +17,7 @@ pub enum Order {
 }
 
 // An order by its kind, or a number that is no kind with three fields.
-#[derive(Drop)]
+#[derive(Clone, Copy)]
 pub enum OfKind {
     Named(Order),
     NoOrder,

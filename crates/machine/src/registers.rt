@@ -7,7 +7,7 @@ use gate::Sharing;
 use ring::Ring;
 
 // 01: "A register is empty, a number of a ring, or bits".
-#[derive(Drop)]
+#[derive(Clone, Copy)]
 pub enum Register {
     Empty,
     Number(Ring, Sharing),
@@ -15,13 +15,13 @@ pub enum Register {
 }
 
 // A place for a register in the record's array.
-#[derive(Drop)]
+#[derive(Clone, Copy)]
 pub struct Slot {
     pub reg: Register,
 }
 
 // 01: "The machine record has 16 registers (0 to 15) and three positions: strand, wire, dealer".
-#[derive(Drop)]
+#[derive(Clone, Copy)]
 pub struct Machine {
     pub slots: [Slot; 16],
     pub masks_at: u64,

@@ -5,14 +5,14 @@ ghost use Rattle.order.specs.Answers.{first_of, gates_of, number_of, refusal_of,
 use machine::{Answer, Machine, Refusal};
 
 // What checks say.
-#[derive(Drop)]
+#[derive(Clone, Copy)]
 pub enum Verdict {
     Fine,
     Because(Refusal),
 }
 
 // The record that an order leaves, and its answer.
-#[derive(Drop)]
+#[derive(Clone, Copy)]
 pub struct Outcome {
     pub machine: Machine,
     pub answer: Answer,

@@ -8,7 +8,7 @@ use crate::answers::Outcome;
 use machine::{Answer, Machine, Refusal, Register};
 
 // Nothing; a register stored, with the gates spent and the dealer's items taken; or a value opened.
-#[derive(Drop)]
+#[derive(Clone, Copy)]
 pub enum Change {
     Refused(Refusal),
     Stored {

@@ -1,4 +1,6 @@
 // Orders 2 to 8 as far as the record decides them, verdicts, and the change that an order makes.
+#![tactic(auto)]
+
 mod answers;
 mod changes;
 mod prepare;

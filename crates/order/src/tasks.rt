@@ -8,7 +8,7 @@ use machine::{Refusal, Register};
 use ring::Ring;
 
 // What an order with gates works on: rings, sub-shares and its own number.
-#[derive(Drop)]
+#[derive(Clone, Copy)]
 pub enum Task {
     Multiply(Ring, Sharing, Sharing),
     Decompose(Ring, Sharing, u64),
@@ -18,7 +18,7 @@ pub enum Task {
 }
 
 // What the record alone decides of orders 2 to 8.
-#[derive(Drop)]
+#[derive(Clone, Copy)]
 pub enum Prepared {
     Because(Refusal),
     Local(Register),
@@ -26,7 +26,7 @@ pub enum Prepared {
 }
 
 // The gates on bits, which come first, and those in the ring of a modulus.
-#[derive(Drop)]
+#[derive(Clone, Copy)]
 pub struct Cost {
     pub bits: u64,
     pub ring: u64,

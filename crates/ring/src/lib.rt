@@ -1,4 +1,6 @@
 // The rings of the set: arithmetic modulo 2^e - 1 for the widths 13, 31 and 61, and single bits of words.
+#![tactic(auto)]
+
 mod arith;
 mod bits;
 mod modular;

@@ -3,7 +3,7 @@ ghost use Rattle.std.specs.Prelude.{◌≡◌};
 ghost use Rattle.ring.specs.Rings.{modulus_of, quarter_of, ring_of, width_of};
 
 // A ring of 01, "Rings, parts and units".
-#[derive(Drop)]
+#[derive(Clone, Copy)]
 pub enum Ring {
     R13,
     R31,
@@ -11,7 +11,7 @@ pub enum Ring {
 }
 
 // What a width names.
-#[derive(Drop)]
+#[derive(Clone, Copy)]
 pub enum OfWidth {
     Named(Ring),
     NoRing,

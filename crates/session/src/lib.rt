@@ -1,4 +1,6 @@
 // A job, line by line: what each line does, and what is printed.
+#![tactic(auto)]
+
 mod lines;
 mod progress;
 mod replies;

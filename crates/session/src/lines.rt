@@ -14,14 +14,14 @@ use line::take_line;
 pub const LAST_LINE: u64 = 1_000_000;
 
 // Where a job stands, and the place after what was printed.
-#[derive(Drop)]
+#[derive(Clone, Copy)]
 pub struct Printed {
     pub progress: Progress,
     pub at: usize,
 }
 
 // Where a job stands, the byte that comes next, and the place after what was printed.
-#[derive(Drop)]
+#[derive(Clone, Copy)]
 pub struct Advance {
     pub progress: Progress,
     pub next: usize,

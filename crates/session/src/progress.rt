@@ -6,21 +6,21 @@ use crate::replies::Reply;
 use line::Reading;
 
 // How many lines of each tape kind were taken.
-#[derive(Drop)]
+#[derive(Clone, Copy)]
 pub struct Counts {
     pub masks: usize,
     pub dealer: usize,
 }
 
 // The counts that a line leaves, and what it is answered.
-#[derive(Drop)]
+#[derive(Clone, Copy)]
 pub struct Turn {
     pub counts: Counts,
     pub reply: Reply,
 }
 
 // The lines that have ended, and what was read of the next.
-#[derive(Drop)]
+#[derive(Clone, Copy)]
 pub struct Progress {
     pub counts: Counts,
     pub lines: u64,

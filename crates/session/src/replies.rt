@@ -7,7 +7,7 @@ ghost use Rattle.session.specs.Outputs.{replied};
 use line::print_line;
 
 // A tape line that is taken is answered by nothing; any other by its refusal or 0, and the value opened or 0.
-#[derive(Drop)]
+#[derive(Clone, Copy)]
 pub enum Reply {
     Silent,
     Says { refusal: u64, value: u64 },

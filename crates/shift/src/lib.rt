@@ -1,4 +1,6 @@
 // Order 7 of 01 on lent slices: a number's bits from s up, composed in the same ring.
+#![tactic(auto)]
+
 ghost use Rattle.std.specs.Prelude.{◌+◌, ◌*◌, ◌-◌, ◌≤◌, drop};
 ghost use Rattle.ring.specs.Rings.{modulus_of, width_of};
 ghost use Rattle.gate.specs.Places.{InRange, parts, three};

@@ -5,7 +5,7 @@ ghost use Rattle.step.specs.Found.{other_of, source_of};
 use machine::{Order, Register};
 
 // Whether it is sound, the registers that the order names as sources, and the positions.
-#[derive(Drop)]
+#[derive(Clone, Copy)]
 pub struct Found {
     pub sound: bool,
     pub a: Register,

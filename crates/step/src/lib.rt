@@ -1,4 +1,6 @@
 // The machine's step: one order on a record, with the tapes and channels that are lent.
+#![tactic(auto)]
+
 mod found;
 mod ways;
 mod words;

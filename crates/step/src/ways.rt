@@ -8,7 +8,7 @@ use machine::{Machine, Order};
 use order::{Prepared, add, compose, convert, decompose, multiply, scale, shift};
 
 // Orders 2 to 8 meet in one, with their destination, so that they are attempted at one place.
-#[derive(Drop)]
+#[derive(Clone, Copy)]
 pub enum Way {
     Deal { d: u64, e: u64, v: u64 },
     Attempt(u64, Prepared),

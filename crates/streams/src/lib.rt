@@ -1,4 +1,6 @@
 // Standard input and output: a call that fails is told by a line on standard error, with the system's reason.
+#![tactic(auto)]
+
 use libc::{EPIPE, STDOUT_FILENO};
 
 // Tells a read that failed. It comes just after the read, whose reason it gives.

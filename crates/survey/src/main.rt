@@ -1,4 +1,6 @@
 // The job program: lines on standard input, a printed line for each order on standard output.
+#![tactic(auto)]
+
 mod chunks;
 
 ghost use Rattle.std.specs.Prelude.{cond, ◌≡◌, ◌*◌, ◌-◌, ◌≤◌, ◌<◌, length};
@@ -13,7 +15,7 @@ use libc::STDIN_FILENO;
 use session::{Progress, finish};
 
 // Where a chunk leaves the job, what its read answered, and whether what it prints was written.
-#[derive(Drop)]
+#[derive(Clone, Copy)]
 struct Turn {
     progress: Progress,
     got: isize,

@@ -4,7 +4,7 @@ ghost use Rattle.tape.specs.Draws.{Drew};
 ghost use Rattle.tape.specs.Tapes.{low_bits};
 
 // An item with the index of the next raw word, or the end of the raw words.
-#[derive(Drop)]
+#[derive(Clone, Copy)]
 pub enum Draw {
     Item { item: u64, next: usize },
     Ended,

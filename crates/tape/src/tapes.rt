@@ -7,7 +7,7 @@ use crate::passes::{enough, fill_run};
 use ring::{OfWidth, Ring};
 
 // What came of a preparation.
-#[derive(Drop)]
+#[derive(Clone, Copy)]
 pub enum Prepared {
     Done { used: u64 },
     NoRing,

@@ -1,4 +1,6 @@
 // Prepares a run of two items, which holds 7 and 9, from a few raw words. For each ring code: refusal, count, and the run.
+#![tactic(auto)]
+
 use libc::STDOUT_FILENO;
 
 fn main() {

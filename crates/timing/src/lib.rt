@@ -1,4 +1,6 @@
 // Loops over the library's functions, exported for bench/ alone.
+#![tactic(auto)]
+
 mod chains;
 mod products;
 
