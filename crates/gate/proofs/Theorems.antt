@@ -1,7 +1,7 @@
 -- The gate's laws, for every modulus (specs/Theorems.antt).
 use Prim.Native.Nat.{ℕ, ◌+◌, ◌*◌, ◌%◌, ◌<◌}
 use mathlib.Core.Path.{◌≡◌, sym, ◌∙◌}
-use native.Mathlib.Nat.{mod-lt, zero_mod}
+use native.Mathlib.Nat.{mod-lt, zero-mod}
 use native.Mathlib.Omega.{arith}
 use Rattle.ring.specs.Modular.{Cong, diff}
 use Rattle.ring.proofs.CongLaw.{cong_add, cong_below, cong_cancel, cong_mod, cong_mul, cong_of_eq, cong_refl, cong_sym, cong_trans, diff-add, diff-lt, diff_only}
@@ -23,7 +23,7 @@ masks_cong m h t =
     cong_cancel s h (cong_trans (cong_of_eq left) (cong_trans sums (cong_of_eq right)))
 
 pub masks_cancel : MasksCancel
-masks_cancel m h t = (masks_cong m h t).same ∙ zero_mod m
+masks_cancel m h t = (masks_cong m h t).same ∙ zero-mod m
 
 pub words_fit : WordsFit
 unfolding gated word
