@@ -1,0 +1,20 @@
+use mathlib.Core.Path.{◌∙◌}
+use native.Mathlib.Omega.{arith}
+use Rattle.ring.proofs.RangeLaw.{sized_lt}
+use Rattle.gate.proofs.WordLaw.{ring_word_is}
+use Rattle.gate.proofs.words.ring_word.Goals as goal
+
+pub returns : goal.returns
+returns c = record { is = c.mul_add_mod.ensures.is ∙ ring_word_is _ _ _ _ _ _ _ _ _ c.add_mod-sum.ensures.is c.mask_word.ensures.is; below = c.mul_add_mod.ensures.below }
+
+pub add_mod-sum-requires : goal.add_mod-sum-requires
+add_mod-sum-requires c =
+    omega (arith, c.requires.sized)
+
+pub mask_word-requires : goal.mask_word-requires
+mask_word-requires c =
+    record { room = omega (arith, sized_lt c.requires.sized); items = c.requires.items }
+
+pub mul_add_mod-requires : goal.mul_add_mod-requires
+mul_add_mod-requires c =
+    record { sized = c.requires.sized; left = omega arith; right = omega arith; sum = omega arith }

@@ -1,0 +1,12 @@
+use Prim.Native.Nat.{ℕ, suc, ◌-◌}
+use mathlib.Core.Path.{◌≡◌, refl, ◌∙◌}
+use lib.ListN.{length, drop}
+use Rattle.tape.specs.Tapes.{fill}
+use Rattle.tape.proofs.FillLaw.{ended_here, fits_here, again_here}
+use Rattle.tape.proofs.draws.draw_item.Given as goal
+
+abbrev pub invariant-loop-i : goal.invariant-loop-i
+invariant-loop-i l = (n : ℕ) → fill l.width l.limit (suc n) l.at (drop l.at l.raw) ≡ fill l.width l.limit (suc n) l.i (drop l.i l.raw)
+
+abbrev pub decreases-loop-i : goal.decreases-loop-i
+decreases-loop-i l = length l.raw - l.i
