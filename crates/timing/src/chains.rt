@@ -1,6 +1,6 @@
 // A chain of gates in a ring, each from the last one's sharing.
 ghost use Rattle.std.specs.Prelude.{◌≡◌, ◌+◌, ◌*◌, ◌≤◌, length};
-ghost use Rattle.gate.specs.Lent.{at_entry, at_exit};
+ghost use Rattle.gate.specs.Lent.{at_entry_mut, at_exit};
 ghost use Rattle.gate.specs.Places.{InRange};
 ghost use Rattle.ring.specs.Lent.{Stands};
 ghost use Rattle.ring.specs.Rings.{Sized, modulus_of};
@@ -51,7 +51,7 @@ fn run_chain(
     requires left { InRange p x }
     requires right { InRange p y }
     requires lengths { Shape items.now c0.old c1.old c2.old }
-    ensures { Ran (chain p y items.now (length c0.old) 0 x) result (at_entry c0 c1 c2) (at_exit c0 c1 c2) }
+    ensures { Ran (chain p y items.now (length c0.old) 0 x) result (at_entry_mut c0 c1 c2) (at_exit c0 c1 c2) }
 {
     let mut z = x;
     let mut i = 0;
@@ -77,7 +77,7 @@ fn start_chain(
     c2: &mut [u64],
 ) -> usize
     requires { Shape items.now c0.old c1.old c2.old }
-    ensures { Ran (started (modulus_of r) x y items.now (length c0.old)) result (at_entry c0 c1 c2) (at_exit c0 c1 c2) }
+    ensures { Ran (started (modulus_of r) x y items.now (length c0.old)) result (at_entry_mut c0 c1 c2) (at_exit c0 c1 c2) }
 {
     let e = r.width();
     let p = r.modulus();
@@ -98,7 +98,7 @@ pub extern "C" fn timing_gate(
     c1: &mut [u64],
     c2: &mut [u64],
 ) -> u64
-    ensures is { Ran (gates width x.now y.now items.now (at_entry c0 c1 c2)) result (at_entry c0 c1 c2) (at_exit c0 c1 c2) }
+    ensures is { Ran (gates width x.now y.now items.now (at_entry_mut c0 c1 c2)) result (at_entry_mut c0 c1 c2) (at_exit c0 c1 c2) }
     ensures lent { Stands x × Stands y × Stands items }
 {
     match Ring::of_width(width) {
