@@ -2,7 +2,7 @@
 ghost use Rattle.std.specs.Prelude.{◌≡◌, ◌+◌, ◌*◌, ◌≤◌, length};
 ghost use Rattle.ring.specs.Lent.{Stands};
 ghost use Rattle.ring.specs.Rings.{modulus_of, width_of};
-ghost use Rattle.gate.specs.Lent.{at_entry, at_exit};
+ghost use Rattle.gate.specs.Lent.{at_entry, at_entry_mut, at_exit};
 ghost use Rattle.circuit.specs.Lent.{ItemsBelow, Long};
 ghost use Rattle.machine.specs.Checks.{first_met};
 ghost use Rattle.batch.specs.Batch.{batch, figure_checks, lengths_of, performed, settled};
@@ -38,7 +38,7 @@ fn run(
     requires results { (length z0.old ≡ 64) × (length z1.old ≡ 64) × (length z2.old ≡ 64) }
     requires source { ItemsBelow (modulus_of r) 64 a0.now a1.now a2.now }
     ensures { answered result (at_exit c0 c1 c2) (at_exit z0 z1 z2)
-        ≡ performed (width_of r) l (at_entry a0 a1 a2) (at_entry m0 m1 m2) (at_entry c0 c1 c2) }
+        ≡ performed (width_of r) l (at_entry a0 a1 a2) (at_entry m0 m1 m2) (at_entry_mut c0 c1 c2) }
 {
     decompose_lanes(
         r, l as usize, a0, a1, a2, m0, m1, m2, c0, c1, c2, z0, z1, z2,
@@ -69,8 +69,8 @@ fn in_ring(
     requires lengths { (length a0.now ≡ 64) × (length a1.now ≡ 64) × (length a2.now ≡ 64) }
     requires results { (length z0.old ≡ 64) × (length z1.old ≡ 64) × (length z2.old ≡ 64) }
     ensures { answered result (at_exit c0 c1 c2) (at_exit z0 z1 z2)
-        ≡ settled (first_met (figure_checks (width_of r) l (at_entry a0 a1 a2) (lengths_of (at_entry m0 m1 m2) (at_entry c0 c1 c2))))
-        (width_of r) l (at_entry a0 a1 a2) (at_entry m0 m1 m2) (at_entry c0 c1 c2) (at_entry z0 z1 z2) }
+        ≡ settled (first_met (figure_checks (width_of r) l (at_entry a0 a1 a2) (lengths_of (at_entry m0 m1 m2) (at_entry_mut c0 c1 c2))))
+        (width_of r) l (at_entry a0 a1 a2) (at_entry m0 m1 m2) (at_entry_mut c0 c1 c2) (at_entry_mut z0 z1 z2) }
 {
     let n0 = m0.len() as u64;
     let n1 = m1.len() as u64;
@@ -102,7 +102,7 @@ pub fn decompose_batch(
     z2: &mut [u64],
 ) -> Answer
     ensures is { answered result (at_exit c0 c1 c2) (at_exit z0 z1 z2)
-        ≡ batch e l (at_entry a0 a1 a2) (at_entry m0 m1 m2) (at_entry c0 c1 c2) (at_entry z0 z1 z2) }
+        ≡ batch e l (at_entry a0 a1 a2) (at_entry m0 m1 m2) (at_entry_mut c0 c1 c2) (at_entry_mut z0 z1 z2) }
     ensures lent { Stands a0 × Stands a1 × Stands a2 × Stands m0 × Stands m1 × Stands m2 }
 {
     if not_count(a0.len(), a1.len(), a2.len()) | not_count(z0.len(), z1.len(), z2.len()) {

@@ -1,6 +1,6 @@
 // Order 8: shared bits become a number of a ring, two gates a bit.
 ghost use Rattle.std.specs.Prelude.{◌≡◌, ◌+◌, ◌*◌, ◌%◌, ◌<◌, ◌≤◌, ◌^◌};
-ghost use Rattle.gate.specs.Lent.{at_entry, at_exit};
+ghost use Rattle.gate.specs.Lent.{at_entry, at_entry_mut, at_exit};
 ghost use Rattle.gate.specs.Places.{InRange, Place, parts, tabled, three};
 ghost use Rattle.ring.specs.Modular.{Cong};
 ghost use Rattle.ring.specs.Rings.{Sized, bit_of, modulus, modulus_of, width_of};
@@ -54,7 +54,7 @@ fn join_first(
     requires place { j < 64 }
     requires items { InRange p t }
     requires room { Long 1 c0.old c1.old c2.old }
-    ensures is { Joins p (three (bit_of w.s0 j) 0 0) (three 0 (bit_of w.s1 j) 0) (parts t) (at_entry c0 c1 c2) result (at_exit c0 c1 c2) }
+    ensures is { Joins p (three (bit_of w.s0 j) 0 0) (three 0 (bit_of w.s1 j) 0) (parts t) (at_entry_mut c0 c1 c2) result (at_exit c0 c1 c2) }
     ensures below { InRange (2 * p + 2) result }
 {
     let b0 = bit(w.s0, j);
@@ -90,7 +90,7 @@ fn join_last(
     requires half { InRange (2 * p + 2) half }
     requires items { InRange p t }
     requires room { Long 1 c0.old c1.old c2.old }
-    ensures is { Joins p (parts half) (three 0 0 (bit_of w.s2 j)) (parts t) (at_entry c0 c1 c2) result (at_exit c0 c1 c2) }
+    ensures is { Joins p (parts half) (three 0 0 (bit_of w.s2 j)) (parts t) (at_entry_mut c0 c1 c2) result (at_exit c0 c1 c2) }
     ensures below { InRange (4 * p + 4) result }
 {
     let b2 = bit(w.s2, j);
@@ -121,7 +121,7 @@ fn join_bit(
     requires masks { Long 2 m0.now m1.now m2.now }
     requires items { ItemsBelow p 2 m0.now m1.now m2.now }
     requires room { Long 2 c0.old c1.old c2.old }
-    ensures is { JoinsBit p j (parts w) (at_entry m0 m1 m2) (at_entry c0 c1 c2) (parts result) (at_exit c0 c1 c2) }
+    ensures is { JoinsBit p j (parts w) (at_entry m0 m1 m2) (at_entry_mut c0 c1 c2) (parts result) (at_exit c0 c1 c2) }
     ensures below { InRange (4 * p + 4) result }
 {
     let t0 = items_at(m0, m1, m2, 0);
@@ -198,7 +198,7 @@ pub fn compose_bits(
     requires items { ItemsBelow (modulus_of r) (2 * count) m0.now m1.now m2.now }
     requires room { Long (2 * count) c0.old c1.old c2.old }
     ensures is { Summed (compose_gates word_bit (modulus_of r) from count) (tabled (λ i. summing_start (parts w i)))
-        (at_entry m0 m1 m2) (at_entry c0 c1 c2) (parts result) (at_exit c0 c1 c2) }
+        (at_entry m0 m1 m2) (at_entry_mut c0 c1 c2) (parts result) (at_exit c0 c1 c2) }
     ensures below { InRange (modulus_of r) result }
 {
     let e = r.width();
@@ -241,7 +241,7 @@ pub fn compose(
     requires masks { Long (2 * l) m0.now m1.now m2.now }
     requires items { ItemsBelow (modulus_of f) (2 * l) m0.now m1.now m2.now }
     requires room { Long (2 * l) c0.old c1.old c2.old }
-    ensures is { Left (composition (width_of f) l) (parts w) (parts w) (at_entry m0 m1 m2) (at_entry c0 c1 c2) result (at_exit c0 c1 c2) }
+    ensures is { Left (composition (width_of f) l) (parts w) (parts w) (at_entry m0 m1 m2) (at_entry_mut c0 c1 c2) result (at_exit c0 c1 c2) }
     ensures below { InRange (modulus_of f) result }
 {
     compose_bits(f, w, 0, l, m0, m1, m2, c0, c1, c2)

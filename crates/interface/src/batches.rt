@@ -1,6 +1,6 @@
 // Sixty-four figures decomposed in one call.
 ghost use Rattle.std.specs.Prelude.{◌≡◌};
-ghost use Rattle.gate.specs.Lent.{at_entry, at_exit};
+ghost use Rattle.gate.specs.Lent.{at_entry, at_entry_mut, at_exit};
 ghost use Rattle.step.specs.Lent.{Stands};
 ghost use Rattle.interface.specs.Calls.{batch_words, decomposed};
 
@@ -29,7 +29,7 @@ pub extern "C" fn survey_batch(
     answer: &mut [u64],
 ) -> u64
     ensures is { decomposed result (at_exit c0 c1 c2) (at_exit z0 z1 z2) answer.new
-        ≡ batch_words width bits (at_entry a0 a1 a2) (at_entry m0 m1 m2) (at_entry c0 c1 c2) (at_entry z0 z1 z2) answer.old }
+        ≡ batch_words width bits (at_entry a0 a1 a2) (at_entry m0 m1 m2) (at_entry_mut c0 c1 c2) (at_entry_mut z0 z1 z2) answer.old }
     ensures lent { Stands a0 × Stands a1 × Stands a2 × Stands m0 × Stands m1 × Stands m2 }
 {
     if answer.len() != 3 {

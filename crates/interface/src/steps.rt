@@ -1,6 +1,6 @@
 // One order on the words of a record.
 ghost use Rattle.std.specs.Prelude.{◌≡◌};
-ghost use Rattle.gate.specs.Lent.{at_entry, at_exit};
+ghost use Rattle.gate.specs.Lent.{at_entry_mut, at_exit};
 ghost use Rattle.step.specs.Lent.{Stands, TapesStand, tapes_at};
 ghost use Rattle.interface.specs.Calls.{left, step_words};
 
@@ -25,7 +25,7 @@ pub extern "C" fn survey_step(
     answer: &mut [u64],
 ) -> u64
     ensures is { left result «record».new answer.new (at_exit c0 c1 c2)
-        ≡ step_words order.now «record».old answer.old (tapes_at m0 m1 m2 dealer) (at_entry c0 c1 c2) }
+        ≡ step_words order.now «record».old answer.old (tapes_at m0 m1 m2 dealer) (at_entry_mut c0 c1 c2) }
     ensures lent { Stands order × TapesStand m0 m1 m2 dealer }
 {
     if answer.len() != 3 {

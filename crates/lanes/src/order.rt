@@ -1,7 +1,7 @@
 // Order 5 for 64 figures at once.
 ghost use Rattle.std.specs.Prelude.{◌≡◌, ◌+◌, ◌*◌, ◌<◌, ◌≤◌, length};
 ghost use Rattle.ring.specs.Rings.{modulus_of, width_of};
-ghost use Rattle.gate.specs.Lent.{at_entry, at_exit};
+ghost use Rattle.gate.specs.Lent.{at_entry, at_entry_mut, at_exit};
 ghost use Rattle.circuit.specs.Lent.{ItemsBelow, Long};
 ghost use Rattle.planes.specs.Planes.{NoPlanes};
 ghost use Rattle.lanes.specs.Stages.{Increments, Laned, SumsRan, Worked};
@@ -28,7 +28,7 @@ fn sums(
     requires channels { Long (3 * l + 1) c0.old c1.old c2.old }
     requires planes { length x.now ≡ 192 }
     requires total { length s.old ≡ 192 }
-    ensures { SumsRan l x.now s.new (at_entry m0 m1 m2) (at_entry c0 c1 c2) (at_exit c0 c1 c2) }
+    ensures { SumsRan l x.now s.new (at_entry m0 m1 m2) (at_entry_mut c0 c1 c2) (at_exit c0 c1 c2) }
 {
     let n = l + 1;
     carry_lanes(x, n, 0, m0, m1, m2, c0, c1, c2, s);
@@ -55,7 +55,7 @@ fn increment(
     requires total { length s.now ≡ 192 }
     requires out { length o.old ≡ 192 }
     requires width { NoPlanes e o.old }
-    ensures is { Increments l s.now o.new (at_entry m0 m1 m2) (at_entry c0 c1 c2) (at_exit c0 c1 c2) }
+    ensures is { Increments l s.now o.new (at_entry m0 m1 m2) (at_entry_mut c0 c1 c2) (at_exit c0 c1 c2) }
     ensures none { NoPlanes l o.new }
 {
     let p = l + 1 + l;
@@ -82,7 +82,7 @@ fn work(
     requires channels { Long (3 * l + 1) c0.old c1.old c2.old }
     requires planes { length x.old ≡ 192 }
     requires width { NoPlanes e x.old }
-    ensures is { Worked l x.old x.new (at_entry m0 m1 m2) (at_entry c0 c1 c2) (at_exit c0 c1 c2) }
+    ensures is { Worked l x.old x.new (at_entry m0 m1 m2) (at_entry_mut c0 c1 c2) (at_exit c0 c1 c2) }
     ensures none { NoPlanes l x.new }
 {
     let mut s = [0; 192];
@@ -113,7 +113,7 @@ pub fn decompose_lanes(
     requires lengths { (length a0.now ≡ 64) × (length a1.now ≡ 64) × (length a2.now ≡ 64) }
     requires results { (length z0.old ≡ 64) × (length z1.old ≡ 64) × (length z2.old ≡ 64) }
     requires source { ItemsBelow (modulus_of r) 64 a0.now a1.now a2.now }
-    ensures is { Laned (width_of r) l a0.now a1.now a2.now (at_entry m0 m1 m2) (at_entry c0 c1 c2)
+    ensures is { Laned (width_of r) l a0.now a1.now a2.now (at_entry m0 m1 m2) (at_entry_mut c0 c1 c2)
         z0.new z1.new z2.new (at_exit c0 c1 c2) }
     ensures long { (length z0.new ≡ 64) × (length z1.new ≡ 64) × (length z2.new ≡ 64) }
 {

@@ -1,6 +1,6 @@
 // The stages of order 5, each a loop over gates of one kind, from word `at` of mask slices and channels on.
 ghost use Rattle.std.specs.Prelude.{List, ◌≡◌, ℕ, ◌+◌, ◌<◌, ◌≤◌, length};
-ghost use Rattle.gate.specs.Lent.{at_entry, at_exit};
+ghost use Rattle.gate.specs.Lent.{at_entry, at_entry_mut, at_exit};
 ghost use Rattle.circuit.specs.Decompose.{carry_gate};
 ghost use Rattle.circuit.specs.Lent.{Long};
 ghost use Rattle.planes.specs.Planes.{NoPlanes, planes_at};
@@ -30,7 +30,7 @@ pub fn carry_lanes(
     requires channels { Long (at + n) c0.old c1.old c2.old }
     requires carries { length q.old ≡ 192 }
     ensures { Went at n carry_gate (fresh x.now) (carried x.now q.new (n + 1))
-        (at_entry m0 m1 m2) (at_entry c0 c1 c2) (at_exit c0 c1 c2) }
+        (at_entry m0 m1 m2) (at_entry_mut c0 c1 c2) (at_exit c0 c1 c2) }
 {
     store_planes(q, 0, zeros());
     let mut j = 0;
@@ -77,7 +77,7 @@ pub fn running_lanes(
     requires masks { Long (at + n) m0.now m1.now m2.now }
     requires channels { Long (at + n) c0.old c1.old c2.old }
     requires carries { length s.old ≡ 192 }
-    ensures { Running at n x.now s.old s.new (at_entry m0 m1 m2) (at_entry c0 c1 c2) (at_exit c0 c1 c2) }
+    ensures { Running at n x.now s.old s.new (at_entry m0 m1 m2) (at_entry_mut c0 c1 c2) (at_exit c0 c1 c2) }
 {
     let mut last = zeros();
     total_in(x, s, 0, last);
@@ -111,7 +111,7 @@ pub fn zero_lanes(
     requires masks { Long (at + 1) m0.now m1.now m2.now }
     requires channels { Long (at + 1) c0.old c1.old c2.old }
     ensures { (n : ℕ) (x q r : List ℕ) → 1 < n → n ≤ 64 → Totals n x q r s.now
-        → Zeroed at n x q r result (at_entry m0 m1 m2) (at_entry c0 c1 c2) (at_exit c0 c1 c2) }
+        → Zeroed at n x q r result (at_entry m0 m1 m2) (at_entry_mut c0 c1 c2) (at_exit c0 c1 c2) }
 {
     let left = planes_at(s, 0);
     let right = planes_at(s, 1);
@@ -142,7 +142,7 @@ pub fn raising_lanes(
     requires channels { Long (at + n) c0.old c1.old c2.old }
     requires out { length o.old ≡ 192 }
     ensures is { (x q r a₀ : List ℕ) → Totals (n + 3) x q r s.now → length a₀ ≡ 192 → first ≡ planes_at 0 a₀
-        → Raising at n x q r a₀ o.new (at_entry m0 m1 m2) (at_entry c0 c1 c2) (at_exit c0 c1 c2) }
+        → Raising at n x q r a₀ o.new (at_entry m0 m1 m2) (at_entry_mut c0 c1 c2) (at_exit c0 c1 c2) }
     ensures none { (e : ℕ) → n < e → NoPlanes e o.old → NoPlanes e o.new }
 {
     let mut carry = first;

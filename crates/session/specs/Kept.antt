@@ -1,8 +1,8 @@
 -- What the code keeps by value and is lent, as the definitions' state. Used by the code's contracts, and by the theorem `Starts`.
 use Rattle.std.specs.Prelude.{ℕ, ◌≤◌, true, List, ◌≡◌, drop, length, replicate, take}
-use Rattle.std.specs.Borrow.{Bor}
+use Rattle.std.specs.Borrow.{MutBor}
 use denote.Triple.Both.{Both}
-use Rattle.gate.specs.Lent.{at_entry, at_exit}
+use Rattle.gate.specs.Lent.{at_entry_mut, at_exit}
 use Rattle.gate.specs.Places.{Place}
 use Rattle.machine.specs.Registers.{empty_machine, sound}
 use Rattle.machine.specs.declared.registers.Machine.{Machine}
@@ -44,11 +44,11 @@ abbrev pub standing_of : Progress → (ws t₀ t₁ t₂ dealer : List ℕ) → 
 standing_of p ws t₀ t₁ t₂ dealer c = standing (state_of p.counts ws t₀ t₁ t₂ dealer c) p.lines p.reading
 
 -- and with the runs that are lent to a call, at its entry and at its exit
-abbrev pub entering : {X : Type 0} → Progress → (ws t₀ t₁ t₂ dealer c₀ c₁ c₂ : Both (Bor (List ℕ)) X) → Standing
+abbrev pub entering : {X : Type 0} → Progress → (ws t₀ t₁ t₂ dealer c₀ c₁ c₂ : Both (MutBor (List ℕ)) X) → Standing
 entering p ws t₀ t₁ t₂ dealer c₀ c₁ c₂ =
-    standing_of p ws.entry.now t₀.entry.now t₁.entry.now t₂.entry.now dealer.entry.now (at_entry c₀ c₁ c₂)
+    standing_of p ws.entry.now t₀.entry.now t₁.entry.now t₂.entry.now dealer.entry.now (at_entry_mut c₀ c₁ c₂)
 
-abbrev pub leaving : {E : Type 0} → Progress → (ws t₀ t₁ t₂ dealer c₀ c₁ c₂ : Both E (Bor (List ℕ))) → Standing
+abbrev pub leaving : {E : Type 0} → Progress → (ws t₀ t₁ t₂ dealer c₀ c₁ c₂ : Both E (MutBor (List ℕ))) → Standing
 leaving p ws t₀ t₁ t₂ dealer c₀ c₁ c₂ =
     standing_of p ws.exit.now t₀.exit.now t₁.exit.now t₂.exit.now dealer.exit.now (at_exit c₀ c₁ c₂)
 

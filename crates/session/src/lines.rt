@@ -1,6 +1,6 @@
 // The lines of a chunk of input, one after the other.
 ghost use Rattle.std.specs.Prelude.{◌≡◌, ◌+◌, ◌*◌, ◌≤◌, ◌<◌, drop, length};
-ghost use Rattle.gate.specs.Lent.{at_entry, at_exit};
+ghost use Rattle.gate.specs.Lent.{at_entry_mut, at_exit};
 ghost use Rattle.line.specs.Printed.{Wrote};
 ghost use Rattle.session.specs.Kept.{DealerFits, Grown, MasksFit, RecordFits, entering, leaving};
 ghost use Rattle.session.specs.Standings.{Advanced, after_bytes, after_end, after_last, printed_at, printed_by, printed_last};
@@ -52,7 +52,7 @@ fn end_line(
     ensures machine { RecordFits «record».new }
     ensures masks { MasksFit result.progress.counts m0.new m1.new m2.new }
     ensures dealer { DealerFits result.progress.counts dealer.new }
-    ensures rest { Grown p.counts result.progress.counts (at_entry m0 m1 m2) (at_exit m0 m1 m2) dealer.old dealer.new }
+    ensures rest { Grown p.counts result.progress.counts (at_entry_mut m0 m1 m2) (at_exit m0 m1 m2) dealer.old dealer.new }
 {
     let counts = p.counts;
     if LAST_LINE <= p.lines {
@@ -104,7 +104,7 @@ fn take_one(
     ensures machine { RecordFits «record».new }
     ensures masks { MasksFit result.progress.counts m0.new m1.new m2.new }
     ensures dealer { DealerFits result.progress.counts dealer.new }
-    ensures rest { Grown p.counts result.progress.counts (at_entry m0 m1 m2) (at_exit m0 m1 m2) dealer.old dealer.new }
+    ensures rest { Grown p.counts result.progress.counts (at_entry_mut m0 m1 m2) (at_exit m0 m1 m2) dealer.old dealer.new }
 {
     let reading = p.reading;
     let counts = p.counts;
@@ -158,7 +158,7 @@ pub fn feed(
     ensures machine { RecordFits «record».new }
     ensures masks { MasksFit result.progress.counts m0.new m1.new m2.new }
     ensures dealer { DealerFits result.progress.counts dealer.new }
-    ensures rest { Grown p.counts result.progress.counts (at_entry m0 m1 m2) (at_exit m0 m1 m2) dealer.old dealer.new }
+    ensures rest { Grown p.counts result.progress.counts (at_entry_mut m0 m1 m2) (at_exit m0 m1 m2) dealer.old dealer.new }
 {
     let mut q = p;
     let mut i = 0;
@@ -195,7 +195,7 @@ pub fn finish(
     ensures machine { RecordFits «record».new }
     ensures masks { MasksFit result.progress.counts m0.new m1.new m2.new }
     ensures dealer { DealerFits result.progress.counts dealer.new }
-    ensures rest { Grown p.counts result.progress.counts (at_entry m0 m1 m2) (at_exit m0 m1 m2) dealer.old dealer.new }
+    ensures rest { Grown p.counts result.progress.counts (at_entry_mut m0 m1 m2) (at_exit m0 m1 m2) dealer.old dealer.new }
 {
     let reading = p.reading;
     if reading.seen {

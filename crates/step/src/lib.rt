@@ -6,7 +6,7 @@ mod ways;
 mod words;
 
 ghost use Rattle.std.specs.Prelude.{◌≡◌};
-ghost use Rattle.gate.specs.Lent.{at_entry, at_exit};
+ghost use Rattle.gate.specs.Lent.{at_entry_mut, at_exit};
 ghost use Rattle.machine.specs.Step.{step};
 ghost use Rattle.order.specs.Answers.{reported};
 ghost use Rattle.order.specs.Changes.{Changes};
@@ -34,7 +34,7 @@ pub fn decide(
     c2: &mut [u64],
 ) -> Change
     requires { (m : Machine) × (found ≡ found_in m o) }
-    ensures { (m : Machine) → found ≡ found_in m o → Changes m result (at_exit c0 c1 c2) (step o m (tapes_at m0 m1 m2 dealer) (at_entry c0 c1 c2)) }
+    ensures { (m : Machine) → found ≡ found_in m o → Changes m result (at_exit c0 c1 c2) (step o m (tapes_at m0 m1 m2 dealer) (at_entry_mut c0 c1 c2)) }
 {
     let s = found.sound;
     let a = found.a;
@@ -60,7 +60,7 @@ pub fn step(
     c1: &mut [u64],
     c2: &mut [u64],
 ) -> Outcome
-    ensures is { reported result (at_exit c0 c1 c2) ≡ step o m (tapes_at m0 m1 m2 dealer) (at_entry c0 c1 c2) }
+    ensures is { reported result (at_exit c0 c1 c2) ≡ step o m (tapes_at m0 m1 m2 dealer) (at_entry_mut c0 c1 c2) }
     ensures lent { TapesStand m0 m1 m2 dealer }
 {
     let found = Found {

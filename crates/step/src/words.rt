@@ -1,6 +1,6 @@
 // One order on a record in words, which is changed where it stands.
 ghost use Rattle.std.specs.Prelude.{◌≡◌};
-ghost use Rattle.gate.specs.Lent.{at_entry, at_exit};
+ghost use Rattle.gate.specs.Lent.{at_entry_mut, at_exit};
 ghost use Rattle.machine.specs.Registers.{sound};
 ghost use Rattle.machine.specs.Step.{step};
 ghost use Rattle.layout.specs.Layout.{Says};
@@ -27,7 +27,7 @@ pub fn step_words(
 ) -> Answer
     requires { (m : Machine) × Says «record».old m × (sure ≡ sound m) }
     ensures is { (m : Machine) → Says «record».old m → sure ≡ sound m
-        → Reports «record».new result (at_exit c0 c1 c2) (step o m (tapes_at m0 m1 m2 dealer) (at_entry c0 c1 c2)) }
+        → Reports «record».new result (at_exit c0 c1 c2) (step o m (tapes_at m0 m1 m2 dealer) (at_entry_mut c0 c1 c2)) }
     ensures lent { TapesStand m0 m1 m2 dealer }
 {
     let found = Found {

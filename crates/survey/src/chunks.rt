@@ -1,6 +1,6 @@
 // What was read, taken: all between a read and the write.
 ghost use Rattle.std.specs.Prelude.{◌≡◌, ◌*◌, ◌≤◌, length};
-ghost use Rattle.gate.specs.Lent.{at_entry, at_exit};
+ghost use Rattle.gate.specs.Lent.{at_entry_mut, at_exit};
 ghost use Rattle.line.specs.Printed.{Wrote};
 ghost use Rattle.session.specs.Kept.{DealerFits, Grown, MasksFit, RecordFits, entering, leaving};
 ghost use Rattle.session.specs.Standings.{after_bytes, printed_by};
@@ -35,7 +35,7 @@ pub fn take_read(
     ensures machine { RecordFits «record».new }
     ensures masks { MasksFit result.progress.counts m0.new m1.new m2.new }
     ensures dealer { DealerFits result.progress.counts dealer.new }
-    ensures rest { Grown p.counts result.progress.counts (at_entry m0 m1 m2) (at_exit m0 m1 m2) dealer.old dealer.new }
+    ensures rest { Grown p.counts result.progress.counts (at_entry_mut m0 m1 m2) (at_exit m0 m1 m2) dealer.old dealer.new }
 {
     let n = io::count(got, buf);
     feed(p, &buf[0..n], record, m0, m1, m2, dealer, c0, c1, c2, out)

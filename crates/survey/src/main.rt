@@ -4,7 +4,7 @@
 mod chunks;
 
 ghost use Rattle.std.specs.Prelude.{cond, ◌≡◌, ◌*◌, ◌-◌, ◌≤◌, ◌<◌, length};
-ghost use Rattle.gate.specs.Lent.{at_entry, at_exit};
+ghost use Rattle.gate.specs.Lent.{at_entry_mut, at_exit};
 ghost use Rattle.machine.specs.Step.{written};
 ghost use Rattle.session.specs.Kept.{DealerFits, Grown, MasksFit, RecordFits, empty_words, entering, leaving, no_lines};
 ghost use Rattle.session.specs.Outputs.{zero_words};
@@ -51,7 +51,7 @@ fn take_chunk(
     ensures machine { RecordFits «record».new }
     ensures masks { MasksFit result.progress.counts m0.new m1.new m2.new }
     ensures dealer { DealerFits result.progress.counts dealer.new }
-    ensures rest { Grown p.counts result.progress.counts (at_entry m0 m1 m2) (at_exit m0 m1 m2) dealer.old dealer.new }
+    ensures rest { Grown p.counts result.progress.counts (at_entry_mut m0 m1 m2) (at_exit m0 m1 m2) dealer.old dealer.new }
 {
     let got = libc::read(STDIN_FILENO, buf);
     streams::tell_unread(b"survey: standard input", got);
@@ -97,7 +97,7 @@ fn take_input(
     ensures machine { RecordFits «record».new }
     ensures masks { MasksFit result.progress.counts m0.new m1.new m2.new }
     ensures dealer { DealerFits result.progress.counts dealer.new }
-    ensures rest { Grown no_lines result.progress.counts (at_entry m0 m1 m2) (at_exit m0 m1 m2) dealer.old dealer.new }
+    ensures rest { Grown no_lines result.progress.counts (at_entry_mut m0 m1 m2) (at_exit m0 m1 m2) dealer.old dealer.new }
 {
     let mut turn = Turn {
         progress: Progress::start(),
@@ -134,7 +134,7 @@ fn end_input(
     requires room { 105 ≤ length out.old }
     ensures is { leaving result «record» m0 m1 m2 dealer c0 c1 c2 ≡ after_input able (entering p «record» m0 m1 m2 dealer c0 c1 c2) }
     ensures prints { out.new ≡ written 0 (printed_after able (entering p «record» m0 m1 m2 dealer c0 c1 c2)) out.old }
-    ensures rest { Grown p.counts result.counts (at_entry m0 m1 m2) (at_exit m0 m1 m2) dealer.old dealer.new }
+    ensures rest { Grown p.counts result.counts (at_entry_mut m0 m1 m2) (at_exit m0 m1 m2) dealer.old dealer.new }
 {
     if !able {
         return p;
@@ -166,7 +166,7 @@ fn run_job(
     requires room { 105 * length buf.old ≤ length out.old }
     ensures ran { Ran (leaving result.progress «record» m0 m1 m2 dealer c0 c1 c2)
         result.got result.is_written buf.new out.new }
-    ensures rest { Grown no_lines result.progress.counts (at_entry m0 m1 m2) (at_exit m0 m1 m2) dealer.old dealer.new }
+    ensures rest { Grown no_lines result.progress.counts (at_entry_mut m0 m1 m2) (at_exit m0 m1 m2) dealer.old dealer.new }
 {
     let last = take_input(buf, record, m0, m1, m2, dealer, c0, c1, c2, out);
     let p = last.progress;

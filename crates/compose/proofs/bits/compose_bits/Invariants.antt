@@ -1,0 +1,14 @@
+use Prim.Native.Nat.{◌*◌, ◌-◌, ◌<◌}
+use native.Mathlib.Omega.{arith}
+use Rattle.ring.specs.Rings.{Sized}
+use Rattle.ring.proofs.RangeLaw.{sized, sized_gt}
+use Rattle.circuit.proofs.LentLaw.{below_on, long_on}
+use Rattle.compose.proofs.TurnLaw.{Reached, Turn, all-summed, at-start, turn_of, went_on}
+use Rattle.compose.proofs.bits.compose_bits.Given as goal
+
+abbrev pub invariant-loop-k : goal.invariant-loop-k
+invariant-loop-k l =
+    Reached l.p l.from l.count l.w l.m0 l.m1 l.m2 l.initial.c0 l.initial.c1 l.initial.c2 l.k l.power l.sum l.c0 l.c1 l.c2 × (l.power < l.e)
+
+abbrev pub decreases-loop-k : goal.decreases-loop-k
+decreases-loop-k l = l.count - l.k

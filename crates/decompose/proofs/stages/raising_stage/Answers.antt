@@ -1,0 +1,77 @@
+-- Invariant: j half adders ran, whatever words the total is made of, and the carries have j + 1 bits, the last of which are at hand.
+use Prim.Native.Nat.{◌+◌, ◌-◌, ◌<◌, ◌≤◌}
+use mathlib.Core.Path.{◌≡◌, refl, ◌∙◌}
+use native.Mathlib.Omega.{arith}
+use Rattle.gate.specs.Places.{three}
+use Rattle.gate.specs.declared.sharing.Sharing.{Sharing}
+use Rattle.circuit.specs.Circuits.{upto}
+use Rattle.circuit.specs.Decompose.{raising_gate}
+use Rattle.circuit.specs.Lent.{Ran}
+use Rattle.circuit.proofs.LentLaw.{long_less}
+use Rattle.circuit.proofs.TurnLaw.{items_in, no_gates, one_more}
+use Rattle.decompose.specs.Words.{digits_of, totalled}
+use Rattle.decompose.proofs.StageLaw.{Kept, Last, first-last, room_next, stored_last}
+use Rattle.decompose.proofs.stages.raising_stage.Goals as goal
+
+pub loop-j-init : goal.loop-j-init
+loop-j-init c = (
+  record { within = omega arith; same = record { zero = refl; one = refl; two = refl }; words = c.requires.first },
+  first-last c.requires.first,
+  λ x carries running e. no_gates raising_gate refl,
+)
+
+pub items_at-t-requires : goal.items_at-t-requires
+items_at-t-requires c =
+    let more : c.loop-j.j + 1 ≤ c.args.n = omega arith in
+    long_less more c.requires.masks
+
+pub raising_turn-last-requires : goal.raising_turn-last-requires
+raising_turn-last-requires c =
+    let head = c.loop-j in
+    let below = c.loop-j-test.true in
+    record { bit = omega (arith, c.requires.count); last = head.invariant.1.bits; items = items_in below c.items_at-t.ensures c.requires.items; room = room_next head.invariant.0 c.requires.channels (omega arith) }
+
+pub store-raising-requires : goal.store-raising-requires
+store-raising-requires c =
+    let few : (c.loop-j.j < c.args.n) × (c.args.n < 62) = (c.loop-j-test.true, c.requires.count) in
+    let head = c.loop-j in
+    record { shift = omega (arith, few); words = head.invariant.0.words; bits = c.raising_turn-last.ensures.below }
+
+pub loop-j-preserved : goal.loop-j-preserved
+loop-j-preserved c =
+    let head = c.loop-j in
+    let kept = head.invariant.0 in
+    let room = room_next kept c.requires.channels (omega arith) in (
+      record {
+        within = omega arith;
+        same = record {
+          zero = c.c0-1.given.1 ∙ kept.same.zero;
+          one = c.c1-1.given.1 ∙ kept.same.one;
+          two = c.c2-1.given.1 ∙ kept.same.two;
+        };
+        words = c.store-raising.ensures.below;
+      },
+      stored_last _ kept.words c.raising_turn-last.ensures.below c.store-raising.ensures.is,
+      λ x carries running e. one_more raising_gate head.j c.items_at-t.ensures (head.invariant.2 x carries running e) room
+          (c.raising_turn-last.ensures.turned x carries running head.raising c.store-raising.result e head.invariant.1.is c.store-raising.ensures.is),
+    )
+
+pub returns : goal.returns
+returns c =
+    let same : c.loop-j.j ≡ c.args.n = omega arith in
+    rw same at c.loop-j.invariant.2
+
+pub overflow_add-j : goal.overflow_add-j
+overflow_add-j c =
+    let few : (c.loop-j.j < c.args.n) × (c.args.n < 62) = (c.loop-j-test.true, c.requires.count) in
+    omega (arith, few)
+
+pub overflow_add-j-in-loop-j : goal.overflow_add-j-in-loop-j
+overflow_add-j-in-loop-j c =
+    let few : (c.loop-j.j < c.args.n) × (c.args.n < 62) = (c.loop-j-test.true, c.requires.count) in
+    omega (arith, few)
+
+pub loop-j-smaller : goal.loop-j-smaller
+loop-j-smaller c =
+    let few : (c.loop-j.j < c.args.n) × (c.args.n < 62) = (c.loop-j-test.true, c.requires.count) in
+    omega (arith, few)
