@@ -1,0 +1,34 @@
+-- Invariant: k rows are x.
+use Prim.Native.Nat.{ℕ, ◌-◌, ◌<◌, ◌≤◌}
+use mathlib.Core.Path.{◌≡◌}
+use native.Mathlib.Omega.{arith}
+use borrow.Author.Count.{below_none}
+use lib.ListN.{get_or, length, length-set}
+use Rattle.ring.specs.Rings.{modulus_of}
+use Rattle.planes.specs.Planes.{four_times_at}
+use Rattle.planes.proofs.RowLaw.{four_times_lt, planes_are, row_more}
+use Rattle.planes.proofs.rows.wide_planes.Goals as goal
+
+pub four_times-requires : goal.four_times-requires
+four_times-requires c = c.requires.source.at c.loop-k.k (omega arith)
+
+pub loop-k-preserved : goal.loop-k-preserved
+loop-k-preserved c =
+    let head = c.loop-k in
+    (
+      omega arith,
+      simp length-set head.invariant.1,
+      row_more head.y head.k c.four_times.result (four_times_at (modulus_of c.args.r) c.args.a.now) (omega arith)
+          head.invariant.2 c.four_times.ensures.is,
+    )
+
+pub returns : goal.returns
+returns c =
+    let head = c.loop-k in
+    let same : head.k ≡ 64 = omega arith in
+    planes_are (four_times_at (modulus_of c.args.r) c.args.a.now) (rw same at head.invariant.2)
+    (λ k h. omega (arith, four_times_lt c.args.r c.args.a.now k)) c.transpose.ensures.is
+
+pub loop-k-init : goal.loop-k-init
+loop-k-init c =
+    (omega arith, c.requires.room, below_none _)

@@ -1,0 +1,8 @@
+use native.Mathlib.Omega.{arith}
+use Rattle.planes.proofs.RowLaw.{rows_are}
+use Rattle.planes.proofs.rows.wide_rows.Goals as goal
+
+pub returns : goal.returns
+returns c =
+    let copied = c.copy in
+    record { is = rows_are c.transpose.ensures.is copied.ensures.0 (λ k h. omega (arith, c.slice_known-4-1.given k)); long = copied.ensures.1 }

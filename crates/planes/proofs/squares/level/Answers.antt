@@ -1,0 +1,39 @@
+-- Invariant: q blocks are done.
+use Prim.Native.Nat.{◌+◌, ◌*◌, ◌-◌, ◌≤◌}
+use mathlib.Core.Path.{◌≡◌, ◌∙◌, refl}
+use native.Mathlib.Nat.{mul-le-mul_right}
+use native.Mathlib.Omega.{arith}
+use borrow.Author.Rules.{rules}
+use lib.ListN.{length}
+use Rattle.planes.specs.Squares.{Levelled}
+use Rattle.planes.proofs.TurnLaw.{none_levelled, one_levelled}
+use Rattle.planes.proofs.squares.level.Goals as goal
+
+-- the next block ends among the rows
+block : goal.Need-overflow-mul-exchange-2
+block c =
+    let more : c.loop-q.q + 1 ≤ c.args.n = omega arith in
+    omega (arith, mul-le-mul_right (2 * c.args.h) more)
+
+pub exchange-requires : goal.exchange-requires
+exchange-requires c =
+    let more : c.loop-q.q + 1 ≤ c.args.n = omega arith in
+    record { width = search rules; room = omega (arith, mul-le-mul_right (2 * c.args.h) more) }
+
+pub loop-q-preserved : goal.loop-q-preserved
+loop-q-preserved c =
+    let inv = c.loop-q.invariant in
+    (omega arith, c.exchange.ensures.long ∙ inv.1, one_levelled inv.2 c.exchange.ensures.is)
+
+pub returns : goal.returns
+returns c =
+    let same : c.loop-q.q ≡ c.args.n = omega arith in
+    record { is = rw same at c.loop-q.invariant.2; long = c.loop-q.invariant.1 }
+
+pub loop-q-init : goal.loop-q-init
+loop-q-init c =
+    (omega arith, refl, none_levelled _ _ _)
+
+pub overflow_mul-q : goal.overflow_mul-q
+overflow_mul-q =
+    block

@@ -1,0 +1,8 @@
+use borrow.Author.Rules.{rules}
+use native.Mathlib.Omega.{arith}
+use Rattle.planes.proofs.MaskLaw.{sixth_level}
+use Rattle.planes.proofs.squares.transpose.Goals as goal
+
+pub returns : goal.returns
+returns c =
+    record { is = search sixth_level; long = search rules }

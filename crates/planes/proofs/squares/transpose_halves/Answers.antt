@@ -1,0 +1,8 @@
+use borrow.Author.Rules.{rules}
+use native.Mathlib.Omega.{arith}
+use Rattle.planes.proofs.MaskLaw.{five_levels}
+use Rattle.planes.proofs.squares.transpose_halves.Goals as goal
+
+pub returns : goal.returns
+returns c =
+    record { is = search five_levels; long = search rules }
