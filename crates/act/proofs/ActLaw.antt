@@ -97,6 +97,7 @@ both_false p q = rw (p, q)
 none_outside : (ms items : List ℕ) → Fits ms (take (length ms) items) → any_outside ms items ≡ false
 unfolding any_outside
 none_outside [] items f = refl
+none_outside (m ∷ ms) [] f = elim f [ ]
 none_outside (m ∷ ms) (x ∷ items) (more h f) = both_false (lt-leb m x h) (none_outside ms items f)
 
 -- the same of a list of gates

@@ -164,6 +164,8 @@ module _ {E D : Type 0} {Same : Sameness E D} {s : Shared E D} (U : Place) (own 
   unfoldable pub change : (h : Hidden) (es fs : List (Entry (acting Same s))) → AlikeLists es fs → (m n : Shared E D) (c d : Place → List ℕ)
       → (out : Hidden) × Changed U own far h es fs m n c d out
   change h [] [] jobs.done m n c d = (rest_of m h, end)
+  change h [] (f ∷ fs) alike m n c d = elim alike [ ]
+  change h (e ∷ es) [] alike m n c d = elim alike [ ]
   change h (e ∷ es) (f ∷ fs) (jobs.more a tail) m n c d =
       by
       (ℕ_discrete (outcome_j U own far h e f m n c d).refusal (outcome_k U own far h e f m n c d).refusal)

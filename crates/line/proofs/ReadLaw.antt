@@ -111,11 +111,12 @@ module _ (bs : List ℕ) (onward : Says bs) (s : Bool) where
   comma_says : (done f : List ℕ) → length done ≤ 3 → eqb (length f) 0 ≡ false
       → command_in (read_on (comma_on (held s done f)) bs) ≡ after done (before (some (number_from 0 f)) (numbers_of (fields_from [] bs)))
   unfolding comma_on number_from
-  comma_says [] f few e = rw e (onward true _ [] (omega arith) fit_none ∙ after-before [] _ (numbers_of (fields_from [] bs)))
+  comma_says [] f few e =
+      rw e (onward true (number_from 0 f ∷ []) [] (omega arith) fit_none ∙ after-before [] _ (numbers_of (fields_from [] bs)))
   comma_says (a ∷ []) f few e =
-      rw e (onward true _ [] (omega arith) fit_none ∙ after-before (a ∷ []) _ (numbers_of (fields_from [] bs)))
+      rw e (onward true (a ∷ number_from 0 f ∷ []) [] (omega arith) fit_none ∙ after-before (a ∷ []) _ (numbers_of (fields_from [] bs)))
   comma_says (a ∷ b ∷ []) f few e =
-      rw e (onward true _ [] (omega arith) fit_none ∙ after-before (a ∷ b ∷ []) _ (numbers_of (fields_from [] bs)))
+      rw e (onward true (a ∷ b ∷ number_from 0 f ∷ []) [] (omega arith) fit_none ∙ after-before (a ∷ b ∷ []) _ (numbers_of (fields_from [] bs)))
   comma_says (a ∷ b ∷ c ∷ []) f few e =
       rw e (spoilt_says bs ∙ sym (five a b c _ [] bs) ∙ after-before (a ∷ b ∷ c ∷ []) _ (numbers_of (fields_from [] bs)))
   comma_says (a ∷ b ∷ c ∷ d ∷ ns) f few e = absurd (omega arith)

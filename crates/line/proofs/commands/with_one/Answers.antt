@@ -1,4 +1,5 @@
 -- Each arm's number decides the definition's tests.
+use native.Mathlib.Omega.{arith}
 use borrow.Author.Tests.{ne_eqb}
 use Rattle.line.specs.Lines.{with_one}
 use Rattle.line.proofs.commands.with_one.Goals as goal
@@ -16,4 +17,4 @@ returns-in-10 c =
 pub returns-in_default : goal.returns-in_default
 unfolding with_one
 returns-in_default c =
-    rw (ne_eqb _ _ c.in-9.rest.0.1, ne_eqb _ _ c.in-9.rest.1)
+    rw (ne_eqb c.args.kind 9 (omega arith), ne_eqb c.args.kind 10 (omega arith))

@@ -9,7 +9,8 @@ pub loop-i-preserved : goal.loop-i-preserved
 loop-i-preserved c = turned c.loop-i.invariant c.loop-i-test.true c.if-b-eq10.false c.byte-reading.ensures
 
 pub returns-then-b-eq10 : goal.returns-then-b-eq10
-returns-then-b-eq10 c =let whole = taken_stop c.loop-i.invariant c.loop-i-test.true c.if-b-eq10.true in record { reading = whole.0; stop = whole.1 }
+returns-then-b-eq10 c =
+    let whole = taken_stop c.loop-i.invariant c.loop-i-test.true c.if-b-eq10.true in record { reading = whole.0; stop = whole.1 }
 
 pub loop-i-init : goal.loop-i-init
 loop-i-init c =

@@ -4,8 +4,7 @@ use Rattle.order.specs.declared.changes.Change.TheVariants.{Opened, Stored}
 use Rattle.order.proofs.changes.apply.Goals as goal
 
 fits-stored : (c : goal.In-Stored)
-    → let k = c.k-in-Stored-1.given.0 in
-    Fits c.args.m (Stored k.0 k.1.0 k.1.1.0 k.1.1.1.0)
+    → Fits c.args.m (Stored c.in-Stored.d c.in-Stored.register c.in-Stored.gates c.in-Stored.items)
 fits-stored c = rw c.in-Stored.is at c.requires
 
 fits-opened : (c : goal.In-Opened) → Fits c.args.m (Opened c.in-Opened.value)
@@ -29,9 +28,9 @@ moved-requires c =
 
 pub with_register-requires : goal.with_register-requires
 with_register-requires c =
-    let fits-stored : let k = c.k-in-Stored-1.given.0 in
-    Fits c.args.m (Stored k.0 k.1.0 k.1.1.0 k.1.1.1.0) = rw c.in-Stored.is at c.requires in
-    fits-stored.0.register
+    let fits : Fits c.args.m (Stored c.in-Stored.d c.in-Stored.register c.in-Stored.gates c.in-Stored.items)
+    = rw c.in-Stored.is at c.requires in
+    fits.0.register
 
 pub returns-in-Refused : goal.returns-in-Refused
 returns-in-Refused c =

@@ -7,15 +7,6 @@ use Rattle.order.proofs.PrepareLaw.{add_prepares, add_sources, pair_refusal}
 use Rattle.order.proofs.StepLaw.{because}
 use Rattle.order.proofs.prepare.add.Goals as goal
 
-fine : (c : goal.In-Fine)
-    → let a = c.args in
-    (m : Machine) → Sources m a.sound a.x a.a a.y a.b → record_refusal (Add a.d a.x a.y) m ≡ 0
-fine c m of =
-    let kinds : let a = c.args in
-    (m : Machine) → Sources m a.sound a.x a.a a.y a.b → verdict_of c.pair_why-v.result ≡ record_refusal (Add a.d a.x a.y) m = λ m of. let a = c.args in
-    (pair_refusal m a.d a.x a.y of c.pair_why-v.ensures).0 in
-    sym (kinds m of) ∙ ap verdict_of c.in-Fine.is
-
 pub returns-in-Because : goal.returns-in-Because
 returns-in-Because c =
     let kinds : let a = c.args in

@@ -7,15 +7,6 @@ use Rattle.order.proofs.PrepareLaw.{scale_factor, scale_refusal, scale_prepares,
 use Rattle.order.proofs.StepLaw.{because}
 use Rattle.order.proofs.prepare.scale.Goals as goal
 
-fine : (c : goal.In-Fine)
-    → let a = c.args in
-    (m : Machine) → Sources m a.sound a.x a.a a.x a.a → record_refusal (Scale a.d a.x a.c) m ≡ 0
-fine c m of =
-    let kinds : let a = c.args in
-    (m : Machine) → Sources m a.sound a.x a.a a.x a.a → verdict_of c.number_why-v.result ≡ record_refusal (Scale a.d a.x a.c) m = λ m of. let a = c.args in
-    scale_refusal m a.d a.x a.c of c.modulus.ensures c.number_why-v.ensures in
-    sym (kinds m of) ∙ ap verdict_of c.in-Fine.is
-
 pub returns-in-Because : goal.returns-in-Because
 returns-in-Because c =
     let kinds : let a = c.args in

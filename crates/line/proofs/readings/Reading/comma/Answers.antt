@@ -1,4 +1,6 @@
 -- The tests are the definition's own.
+use mathlib.Core.Logic.{◌≢◌}
+use native.Mathlib.Omega.{arith}
 use borrow.Author.Tests.{ne_eqb}
 use Rattle.line.specs.Readings.{comma_on}
 use Rattle.line.proofs.readings.Reading.comma.Goals as goal
@@ -6,8 +8,9 @@ use Rattle.line.proofs.readings.Reading.comma.Goals as goal
 pub returns-in_default : goal.returns-in_default
 unfolding comma_on
 returns-in_default c =
-    let none = c.in-0.rest in
-    rw (c.spoilt-in_default.ensures, ne_eqb _ _ c.if-self-eq0.false, ne_eqb _ _ none.0.0.1, ne_eqb _ _ none.0.1, ne_eqb _ _ none.1)
+    let commas = c.args.self.commas in
+    let none : (commas ≢ 0) × (commas ≢ 1) × (commas ≢ 2) = (omega arith, omega arith, omega arith) in
+    rw (c.spoilt-in_default.ensures, ne_eqb _ _ c.if-self-eq0.false, ne_eqb _ _ none.0, ne_eqb _ _ none.1, ne_eqb _ _ none.2)
 
 pub returns-then-self-eq0 : goal.returns-then-self-eq0
 unfolding comma_on
