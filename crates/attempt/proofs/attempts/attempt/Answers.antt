@@ -1,0 +1,25 @@
+use native.Mathlib.Omega.{arith}
+use mathlib.Core.Path.{refl}
+use Rattle.order.specs.Attempts.{attempted}
+use Rattle.attempt.proofs.AttemptLaw.{ready_gates, ready_local}
+use Rattle.attempt.proofs.attempts.attempt.Goals as goal
+
+-- some record is ready
+pub perform-requires : goal.perform-requires
+perform-requires c = record { fit = (ready_gates c.requires.0 c.args.d c.in-Gates.is c.requires.1).1 }
+
+pub returns-in-Because : goal.returns-in-Because
+unfolding attempted
+returns-in-Because c = λ m of ready. rw c.in-Because.is (record { fits = tt; is = refl })
+
+pub returns-in-Local : goal.returns-in-Local
+unfolding attempted
+returns-in-Local c = λ m of ready.
+    let a = c.args in
+    rw c.in-Local.is
+    (record { fits = (ready_local m a.d c.in-Local.is ready, omega arith, omega arith); is = refl })
+
+pub returns-in-Gates : goal.returns-in-Gates
+returns-in-Gates c = λ m of ready.
+    let a = c.args in
+    rw c.in-Gates.is (c.perform.ensures m of (ready_gates m a.d c.in-Gates.is ready).0)

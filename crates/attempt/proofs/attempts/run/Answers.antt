@@ -1,0 +1,36 @@
+-- The parts of the runs from the record's positions on: their items, and then the gates.
+use Prim.Native.Nat.{ℕ, ◌+◌}
+use native.Mathlib.Omega.{arith}
+use Rattle.circuit.proofs.LentLaw.{long_on}
+use Rattle.order.proofs.CostLaw.{costs}
+use Rattle.attempt.proofs.AttemptLaw.{bad_tried, gates-tried}
+use Rattle.attempt.proofs.SupplyLaw.{cost_modulus, supplied}
+use Rattle.attempt.proofs.attempts.run.Goals as goal
+
+pub bad_items-requires : goal.bad_items-requires
+bad_items-requires c =
+    let a = c.args in
+    record { modulus = cost_modulus a.t c.requires.cost; long = long_on (a.k.bits + a.k.ring) a.masks_at c.requires.masks }
+
+pub returns-then-bad_items : goal.returns-then-bad_items
+returns-then-bad_items c = λ m of seat.
+    let a = c.args in
+    bad_tried a.t a.d (costs a.t c.requires.fit c.requires.cost) of a.m0.now a.m1.now a.m2.now a.c0.now a.c1.now a.c2.now
+    c.bad_items.ensures c.if-bad_items.true
+
+pub words-z-requires : goal.words-z-requires
+words-z-requires c =
+    let a = c.args in
+    let n : ℕ = a.k.bits + a.k.ring in record { fit = c.requires.fit; supplied = supplied a.t c.requires.cost (long_on n a.masks_at c.requires.masks)
+          (long_on n a.channels_at c.requires.room) c.bad_items.ensures c.if-bad_items.false }
+
+pub returns : goal.returns
+returns c = λ m of seat.
+    let a = c.args in
+    gates-tried a.t a.d (costs a.t c.requires.fit c.requires.cost) of a.m0.now a.m1.now a.m2.now a.c0.now a.c1.now a.c2.now
+    c.bad_items.ensures c.if-bad_items.false seat
+    c.words-z.ensures c.left.ensures
+
+pub overflow_add-gates : goal.overflow_add-gates
+overflow_add-gates c =
+    omega (arith, (costs c.args.t c.requires.fit c.requires.cost).few)

@@ -1,0 +1,35 @@
+-- Invariant: an item is no bit where the items seen have a bit above the lowest, or one from k on is.
+use Prim.Native.Nat.{ℕ, ◌-◌, ◌≤◌}
+use mathlib.Core.Bool.{◌||◌}
+use mathlib.Core.List.{List}
+use mathlib.Core.Path.{◌≡◌, refl}
+use native.Mathlib.Nat.{sub-zero}
+use native.Mathlib.Omega.{arith}
+use lib.Dec.{leb}
+use lib.ListN.{drop, get_or, replicate}
+use Rattle.gate.specs.Places.{three}
+use Rattle.machine.specs.Checks.{any_bad}
+use Rattle.attempt.proofs.ItemsLaw.{high_end, high_on}
+use Rattle.attempt.proofs.items.any_wider.Goals as goal
+
+pub loop-k-preserved : goal.loop-k-preserved
+loop-k-preserved c =
+    let a = c.args in
+    let item : List ℕ → ℕ = λ t. get_or t c.loop-k.k 0 in (
+      omega arith,
+      high_on 1 2 a.n c.loop-k.k c.loop-k.all a.m0.now a.m1.now a.m2.now c.loop-k.invariant.1
+          (item a.m0.now) (item a.m1.now) (item a.m2.now) refl refl refl (omega arith),
+    )
+
+pub returns : goal.returns
+returns c =
+    let a = c.args in
+    high_end 1 2 a.n c.loop-k.k c.loop-k.all a.m0.now a.m1.now a.m2.now c.loop-k.invariant.1 (omega arith)
+
+pub loop-k-init : goal.loop-k-init
+loop-k-init c =
+    (omega arith, rw sub-zero)
+
+pub loop-k-smaller : goal.loop-k-smaller
+loop-k-smaller c =
+    omega arith
