@@ -1,0 +1,13 @@
+use Prim.Native.Nat.{◌-◌}
+use mathlib.Core.Path.{◌≡◌, refl}
+use native.Mathlib.Omega.{arith}
+use borrow.Author.Rules.{rules}
+use Rattle.drawing.specs.Lines.{lines_of}
+use Rattle.drawing.proofs.LinesLaw.{Lined, more_items, one_line}
+use Rattle.drawing.proofs.lines.put_lines.Given as goal
+
+abbrev pub invariant-loop-k : goal.invariant-loop-k
+invariant-loop-k l = Lined l.kind l.items l.initial.out l.n l.out l.at l.k
+
+abbrev pub decreases-loop-k : goal.decreases-loop-k
+decreases-loop-k l = l.n - l.k

@@ -1,0 +1,7 @@
+use Rattle.layout.proofs.SaysLaw.{risen}
+use Rattle.layout.proofs.records.rise.Goals as goal
+
+pub returns : goal.returns
+returns c = λ m says.
+    let a = c.args in
+    risen says a.gates a.sent a.items
