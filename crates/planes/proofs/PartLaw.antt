@@ -4,7 +4,7 @@ use mathlib.Core.List.{List, ◌++◌}
 use mathlib.Core.Path.{◌≡◌, ap, sym, ◌∙◌}
 use native.Mathlib.Nat.{min-eq_left}
 use native.Mathlib.Omega.{arith}
-use borrow.Rule.Slice.PartMut.{drop_put, mid_of, put_mid, take_put}
+use borrow.Rule.Slice.PartMut.{drop_put, mid_len, mid_of, put_mid, same_len_mid, take_put}
 use lib.ListN.{get_or-append, drop, get_or, length, length-take, take}
 use lib.Seq.{drop-drop, get_or-append-add, get_or-drop, get_or-take}
 
@@ -43,3 +43,26 @@ mid_put a b n xs ys behind fits long k =
     ap (λ (l : List ℕ). take k l)
     (ap (λ (m : ℕ). drop m (put_mid a n xs ys)) (sym rest) ∙ sym (drop-drop (b - e) e (put_mid a n xs ys)) ∙ ap (λ (l : List ℕ). drop (b - e) l) same
     ∙ drop-drop (b - e) e xs ∙ ap (λ (m : ℕ). drop m xs) rest)
+
+-- of three parts of 64 words: each is as long when it is back
+pub part_long : (a e : ℕ) (x y : List ℕ) → a + 64 ≡ e → length x ≡ 192 → e ≤ 192 → length y ≡ length (mid_of a (e - a) x) → length y ≡ 64
+part_long a e x y size long inside same = same ∙ mid_len a e x (omega arith) ∙ omega arith
+
+-- the run once the first is back, and once the second is
+module _ (x y : List ℕ) (long : length x ≡ 192) (first : length y ≡ 64) where
+  pub first_put : length (put_mid 0 64 x y) ≡ 192
+  first_put = same_len_mid 0 64 x y (first ∙ sym (mid_len 0 64 x (omega arith))) ∙ long
+
+  pub behind_first : (b : ℕ) → 64 ≤ b → mid_of b 64 (put_mid 0 64 x y) ≡ mid_of b 64 x
+  behind_first b far = mid_put 0 b 64 x y far (omega arith) first 64
+
+module _ (x y z : List ℕ) (long : length x ≡ 192) (first : length y ≡ 64) (second : length z ≡ 64) where
+  pub second_put : length (put_mid 64 64 (put_mid 0 64 x y) z) ≡ 192
+  second_put =
+      let once = first_put x y long first in
+      same_len_mid 64 64 (put_mid 0 64 x y) z (second ∙ sym (mid_len 64 128 (put_mid 0 64 x y) (omega arith))) ∙ once
+
+  pub behind_second : mid_of 128 64 (put_mid 64 64 (put_mid 0 64 x y) z) ≡ mid_of 128 64 x
+  behind_second =
+      let once = first_put x y long first in
+      mid_put 64 128 64 (put_mid 0 64 x y) z (omega arith) (omega arith) second 64 ∙ behind_first x y long first 128 (omega arith)

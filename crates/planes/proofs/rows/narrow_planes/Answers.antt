@@ -35,7 +35,7 @@ loop-k-preserved c =
       simp length-set head.invariant.1,
       paired_more head.y head.k (low.result + (high.result * 2 ^ 32) % 2 ^ 64) (four_times_at (modulus_of c.args.r) c.args.a.now)
           (omega arith) head.invariant.1 head.invariant.2
-          (ap₂ (λ (a b : ℕ). a + b) low.ensures.0 (pair_shifted (smalls c).1 ∙ ap (λ (n : ℕ). n * 2 ^ 32) high.ensures.0)),
+          (ap₂ (λ (a b : ℕ). a + b) low.ensures.is (pair_shifted (smalls c).1 ∙ ap (λ (n : ℕ). n * 2 ^ 32) high.ensures.is)),
     )
 
 pub returns : goal.returns
@@ -43,7 +43,7 @@ returns c =
     let head = c.loop-k in
     let same : head.k ≡ 32 = omega arith in
     let turned = c.transpose_halves in
-    halves_are head.y turned.new.0 head.invariant.1 (c.y-1.given.0 ∙ mid_len 0 32 head.y (omega arith)) turned.ensures.0
+    halves_are head.y turned.new.rows head.invariant.1 (c.y-1.given.0 ∙ mid_len 0 32 head.y (omega arith)) turned.ensures.is
     (four_times_at (modulus_of c.args.r) c.args.a.now) (λ k h. narrow_lt c.args.r c.args.a.now k c.requires.width)
     (rw same at head.invariant.2)
 

@@ -10,8 +10,8 @@ use Rattle.planes.proofs.TurnLaw.{none_levelled, one_levelled}
 use Rattle.planes.proofs.squares.level.Goals as goal
 
 -- the next block ends among the rows
-block : goal.Need-overflow-mul-exchange-2
-block c =
+pub overflow_mul-q : goal.overflow_mul-q
+overflow_mul-q c =
     let more : c.loop-q.q + 1 ≤ c.args.n = omega arith in
     omega (arith, mul-le-mul_right (2 * c.args.h) more)
 
@@ -33,7 +33,3 @@ returns c =
 pub loop-q-init : goal.loop-q-init
 loop-q-init c =
     (omega arith, refl, none_levelled _ _ _)
-
-pub overflow_mul-q : goal.overflow_mul-q
-overflow_mul-q =
-    block
