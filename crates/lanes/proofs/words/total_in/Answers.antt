@@ -1,0 +1,11 @@
+use mathlib.Core.Path.{ap, ap₂, ◌∙◌}
+use native.Mathlib.Omega.{arith}
+use Rattle.planes.specs.Planes.{with_planes, words_xor}
+use Rattle.lanes.proofs.words.total_in.Goals as goal
+
+pub returns : goal.returns
+returns c =
+    record { is = c.store_planes.ensures.is
+          ∙ ap (with_planes c.args.s.now c.args.j)
+          (c.words_xor-2.ensures ∙ ap (λ w. words_xor w c.args.last)
+          (c.words_xor.ensures ∙ ap₂ words_xor c.planes_at-b.ensures c.planes_at-u.ensures)); long = c.store_planes.ensures.long }
