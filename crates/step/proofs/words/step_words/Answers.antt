@@ -1,0 +1,60 @@
+-- What is found in the words is decided, and the change is written to them.
+use Prim.Native.Nat.{ℕ}
+use mathlib.Core.Bool.{Bool}
+use mathlib.Core.List.{List}
+use mathlib.Core.Path.{◌≡◌, refl}
+use native.Mathlib.Omega.{arith}
+use lib.ListN.{get_or}
+use Rattle.gate.specs.Places.{three}
+use Rattle.machine.specs.Checks.{Tapes}
+use Rattle.machine.specs.Registers.{register_at, sound}
+use Rattle.machine.specs.Step.{step}
+use Rattle.machine.specs.declared.orders.Order.{Order}
+use Rattle.machine.specs.declared.registers.Machine.{Machine}
+use Rattle.machine.specs.declared.registers.Register.{Register}
+use Rattle.layout.specs.Layout.{Says}
+use Rattle.layout.proofs.SaysLaw.{says_length}
+use Rattle.step.specs.Found.{found_in, other_of, source_of}
+use Rattle.step.proofs.StepLaw.{found_in_lem, written}
+use Rattle.step.proofs.words.step_words.Goals as goal
+
+-- what is found of a record that the words say
+finds : {s : Bool} (o : Order) {ws : List ℕ} {x y : ℕ} {a b : Register}
+    → x ≡ source_of o → ((m : Machine) → Says ws m → a ≡ register_at m x)
+    → y ≡ other_of o → ((m : Machine) → Says ws m → b ≡ register_at m y)
+    → (m : Machine) → Says ws m → s ≡ sound m
+    → record { sound = s; a = a; b = b; masks_at = get_or ws 80 0; channels_at = get_or ws 81 0; dealer_at = get_or ws 82 0 } ≡ found_in m o
+finds {s} o {ws} ex ha ey hb m says is = found_in_lem m o ws says is ex (ha m says) ey (hb m says)
+
+pub register_at-requires : goal.register_at-requires
+register_at-requires c = (c.requires.0, c.requires.1)
+
+pub register_at-requires-2 : goal.register_at-requires-2
+register_at-requires-2 c = (c.requires.0, c.requires.1)
+
+pub bounds-record-80 : goal.bounds-record-80
+bounds-record-80 c = let n = says_length c.requires.1 in omega arith
+
+pub bounds-record-81 : goal.bounds-record-81
+bounds-record-81 c = let n = says_length c.requires.1 in omega arith
+
+pub bounds-record-82 : goal.bounds-record-82
+bounds-record-82 c = let n = says_length c.requires.1 in omega arith
+
+pub decide-k-requires : goal.decide-k-requires
+decide-k-requires c =
+    let given = c.requires in
+    (given.0, finds c.args.o c.source.ensures c.register_at.ensures c.other.ensures c.register_at-2.ensures given.0 given.1 given.2)
+
+pub write_change-requires : goal.write_change-requires
+write_change-requires c =
+    let given = c.requires in
+    (given.0, given.1, (c.decide-k.ensures given.0 (finds c.args.o c.source.ensures c.register_at.ensures c.other.ensures c.register_at-2.ensures given.0 given.1 given.2)).fits)
+
+pub returns : goal.returns
+returns c =
+    let a = c.args in
+    let lent : Tapes = record { masks = three a.m0.now a.m1.now a.m2.now; dealer = a.dealer.now } in record { is = (λ m says is.
+          let told = c.decide-k.ensures m (finds c.args.o c.source.ensures c.register_at.ensures c.other.ensures c.register_at-2.ensures m says is) in
+          written {c = three c.decide-k.new.c0 c.decide-k.new.c1 c.decide-k.new.c2} {x = step a.o m lent (three a.c0.now a.c1.now a.c2.now)} c.answer.ensures
+          (c.write_change.ensures m says told.fits) told); lent = (refl, refl, refl, refl) }
