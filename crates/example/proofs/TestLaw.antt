@@ -49,6 +49,12 @@ takes_small (Compose d x f) m = true
 takes_small (Open x) m = true
 
 small_of : (o : Order) (m : Machine) → takes_small o m ≡ true → TakesSmall o m
+small_of (Deal d e v) m t y lifts = elim lifts [ ]
+small_of (Add d x y) m t z lifts = elim lifts [ ]
+small_of (Scale d x c) m t y lifts = elim lifts [ ]
+small_of (Multiply d x y) m t z lifts = elim lifts [ ]
+small_of (Compose d x f) m t y lifts = elim lifts [ ]
+small_of (Open x) m t y lifts = elim lifts [ ]
 small_of (Decompose d x l) m t y decomposed = ltb-true _ _ t
 small_of (Convert d x f) m t y converted = ltb-true _ _ t
 small_of (Shift d x s) m t y shifted = ltb-true _ _ t

@@ -1,6 +1,6 @@
 -- Lines with other tapes, and what a party sees of them (specs/Course.antt).
 use Prim.Native.Nat.{ℕ, zero, suc}
-use mathlib.Core.List.{List, [], ◌∷◌, flatten, map}
+use mathlib.Core.List.{List, [], ◌∷◌, ◌++◌, flatten, map}
 use mathlib.Core.Path.{◌≡◌, ap, ap₂, fun_ext, refl, subst, subst₂, sym, ◌∙◌}
 use native.Mathlib.Omega.{arith}
 use lib.ListN.{drop, drop_of_length-le, get_or, length, length-drop, length-take, take}
@@ -75,12 +75,15 @@ module _ (T : Tapes) where
       → entries_from above' (relined_from n d T ks) ≡ entries_from above ks
   unfolding entries_from relined_from
   entries_same over n d [] = refl
-  entries_same over n d (Masks t₀ t₁ t₂ ∷ ks) = entries_same (one_more over AlikeCommands.masks) (suc n) d ks
-  entries_same over n d (Dealer item ∷ ks) = entries_same (one_more over AlikeCommands.dealer) n (suc d) ks
-  entries_same over n d (Order o ∷ ks) =
+  entries_same {above = above} over n d (Masks t₀ t₁ t₂ ∷ ks) =
+      entries_same {above = above ++ (Masks t₀ t₁ t₂ ∷ [])} (one_more over AlikeCommands.masks) (suc n) d ks
+  entries_same {above = above} over n d (Dealer item ∷ ks) =
+      entries_same {above = above ++ (Dealer item ∷ [])} (one_more over AlikeCommands.dealer) n (suc d) ks
+  entries_same {above = above} over n d (Order o ∷ ks) =
       ap₂ ◌∷◌ (entry_same o (fun_ext (λ i. sym (masks_long over i))) (sym (dealer_long over)))
-      (entries_same (one_more over (AlikeCommands.order refl)) n d ks)
-  entries_same over n d (Unreadable ∷ ks) = entries_same (one_more over AlikeCommands.unreadable) n d ks
+      (entries_same {above = above ++ (Order o ∷ [])} (one_more over (AlikeCommands.order refl)) n d ks)
+  entries_same {above = above} over n d (Unreadable ∷ ks) =
+      entries_same {above = above ++ (Unreadable ∷ [])} (one_more over AlikeCommands.unreadable) n d ks
 
   -- the item of a mask line, at a place
   mask_at : (i : Place) (n t₀ t₁ t₂ : ℕ)
