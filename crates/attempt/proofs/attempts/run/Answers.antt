@@ -21,8 +21,11 @@ returns-then-bad_items c = λ m of seat.
 pub words-z-requires : goal.words-z-requires
 words-z-requires c =
     let a = c.args in
-    let n : ℕ = a.k.bits + a.k.ring in record { fit = c.requires.fit; supplied = supplied a.t c.requires.cost (long_on n a.masks_at c.requires.masks)
-          (long_on n a.channels_at c.requires.room) c.bad_items.ensures c.if-bad_items.false }
+    let n : ℕ = a.k.bits + a.k.ring in record {
+      fit = c.requires.fit;
+      supplied = supplied a.t c.requires.cost (long_on n a.masks_at c.requires.masks)
+          (long_on n a.channels_at c.requires.room) c.bad_items.ensures c.if-bad_items.false;
+    }
 
 pub returns : goal.returns
 returns c = λ m of seat.

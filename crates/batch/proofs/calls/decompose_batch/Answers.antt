@@ -23,8 +23,11 @@ returns-in-NoRing c =
     let masks : Place → List ℕ = three a.m0.now a.m1.now a.m2.now in
     let channels : Place → List ℕ = three a.c0.now a.c1.now a.c2.now in
     let results : Place → List ℕ = three a.z0.now a.z1.now a.z2.now in
-    record { is = ring_met a.e a.l shares masks channels results c.not_count.ensures c.not_count-2.ensures c.if-not_count.false
-          (sym c.batch_ring.ensures ∙ c.in-NoRing.is); lent = (refl, refl, refl, refl, refl, refl) }
+    record {
+      is = ring_met a.e a.l shares masks channels results c.not_count.ensures c.not_count-2.ensures c.if-not_count.false
+          (sym c.batch_ring.ensures ∙ c.in-NoRing.is);
+      lent = (refl, refl, refl, refl, refl, refl);
+    }
 
 pub in_ring-requires : goal.in_ring-requires
 in_ring-requires c =
@@ -38,5 +41,8 @@ returns-in-Named c =
     let masks : Place → List ℕ = three a.m0.now a.m1.now a.m2.now in
     let channels : Place → List ℕ = three a.c0.now a.c1.now a.c2.now in
     let results : Place → List ℕ = three a.z0.now a.z1.now a.z2.now in
-    record { is = figures-left a.e a.l shares masks channels results c.not_count.ensures c.not_count-2.ensures
-          c.if-not_count.false (sym c.batch_ring.ensures ∙ c.in-Named.is) c.in_ring.ensures; lent = (refl, refl, refl, refl, refl, refl) }
+    record {
+      is = figures-left a.e a.l shares masks channels results c.not_count.ensures c.not_count-2.ensures
+          c.if-not_count.false (sym c.batch_ring.ensures ∙ c.in-Named.is) c.in_ring.ensures;
+      lent = (refl, refl, refl, refl, refl, refl);
+    }

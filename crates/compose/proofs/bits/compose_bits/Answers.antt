@@ -35,8 +35,7 @@ add_weighted-sum-requires c =
 
 pub loop-k-preserved : goal.loop-k-preserved
 loop-k-preserved c =
-    let known : Sized c.width-e.result c.modulus-p.result = sized c.args.r c.width-e.ensures c.modulus-p.ensures in
-    (
+    let known : Sized c.width-e.result c.modulus-p.result = sized c.args.r c.width-e.ensures c.modulus-p.ensures in (
       went_on c.loop-k.invariant.0 c.loop-k-test.true (rw known.is c.next_power-power.ensures.is) c.add_weighted-sum.ensures.below
           c.join_bit-b.auto.c0 c.join_bit-b.auto.c1 c.join_bit-b.auto.c2 c.join_bit-b.ensures.is c.add_weighted-sum.ensures.is,
       c.next_power-power.ensures.below,

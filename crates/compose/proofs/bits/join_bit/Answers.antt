@@ -27,8 +27,11 @@ pub returns : goal.returns
 returns c =
     let room : Long 2 c.join_first-half.new.c0 c.join_first-half.new.c1 c.join_first-half.new.c2 = long_same (record { zero = c.join_first-half.auto.c0; one = c.join_first-half.auto.c1; two = c.join_first-half.auto.c2 })
     c.requires.room in
-    record { is = bit_joined (omega (arith, sized_gt c.requires.sized)) (long_less (omega arith) c.requires.room) (long_on 1 1 room)
-          c.items_at-t0.ensures c.items_at-t1.ensures c.join_first-half.ensures.is c.join_last.ensures.is; below = c.join_last.ensures.below }
+    record {
+      is = bit_joined (omega (arith, sized_gt c.requires.sized)) (long_less (omega arith) c.requires.room) (long_on 1 1 room)
+          c.items_at-t0.ensures c.items_at-t1.ensures c.join_first-half.ensures.is c.join_last.ensures.is;
+      below = c.join_last.ensures.below;
+    }
 
 pub slice_bounds-join_last-count : goal.slice_bounds-join_last-count
 slice_bounds-join_last-count c =

@@ -6,17 +6,14 @@ pub returns : goal.returns
 returns c =
     record { is = each _ c.reduce_once-s0.ensures.is c.reduce_once-s1.ensures.is c.reduce_once-s2.ensures.is; below = record { zero = c.reduce_once-s0.ensures.below; one = c.reduce_once-s1.ensures.below; two = c.reduce_once-s2.ensures.below } }
 
--- CONV: clauses modulus width sum
 pub reduce_once-s0-requires : goal.reduce_once-s0-requires
 reduce_once-s0-requires c =
     omega (arith, c.requires.sized)
 
--- CONV: clauses modulus width sum
 pub reduce_once-s1-requires : goal.reduce_once-s1-requires
 reduce_once-s1-requires c =
     omega (arith, c.requires.sized)
 
--- CONV: clauses modulus width sum
 pub reduce_once-s2-requires : goal.reduce_once-s2-requires
 reduce_once-s2-requires c =
     omega (arith, c.requires.sized)

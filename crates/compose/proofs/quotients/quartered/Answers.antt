@@ -9,5 +9,8 @@ mul-requires-2 c = record { left = rw c.quarter.ensures (quarter-lt c.args.f); r
 
 pub returns : goal.returns
 returns c =
-    record { is = quartered_is _ _ _ _ _ (omega arith) c.reduce.ensures.is c.mul.ensures.is c.sub-rest.ensures.is
-          c.quarter.ensures c.mul-2.ensures.is; below = c.mul-2.ensures.below }
+    record {
+      is = quartered_is _ _ _ _ _ (omega arith) c.reduce.ensures.is c.mul.ensures.is c.sub-rest.ensures.is
+          c.quarter.ensures c.mul-2.ensures.is;
+      below = c.mul-2.ensures.below;
+    }

@@ -21,10 +21,13 @@ raising_stage-raising-requires c =
 
 pub returns : goal.returns
 returns c =
-    let room = long_less c.requires.count.0 c.requires.channels in record { ended = λ x carries running e.
+    let room = long_less c.requires.count.0 c.requires.channels in record {
+      ended = λ x carries running e.
           ended_here c.args.l
           (ran-three refl (turn-ran c.items_at-t.ensures room (c.zero_turn-first.ensures.turned x carries running e)) (c.raising_stage-raising.ensures x carries running e))
-          c.finish.ensures.is e; below = c.finish.ensures.below }
+          c.finish.ensures.is e;
+      below = c.finish.ensures.below;
+    }
 
 pub items_at-t-requires : goal.items_at-t-requires
 items_at-t-requires c =

@@ -15,11 +15,10 @@ use Rattle.decompose.proofs.StageLaw.{Kept, room_next}
 use Rattle.decompose.proofs.stages.carry_stage.Goals as goal
 
 pub loop-j-init : goal.loop-j-init
-loop-j-init c =
-    (
-      record { within = omega arith; same = record { zero = refl; one = refl; two = refl }; words = rw c.zeros-carries.ensures (omega arith) },
-      no_gates carry_gate (ap (λ (w : Sharing). digits_of c.args.x w zeros zeros) (sym c.zeros-carries.ensures)),
-    )
+loop-j-init c = (
+  record { within = omega arith; same = record { zero = refl; one = refl; two = refl }; words = rw c.zeros-carries.ensures (omega arith) },
+  no_gates carry_gate (ap (λ (w : Sharing). digits_of c.args.x w zeros zeros) (sym c.zeros-carries.ensures)),
+)
 
 pub items_at-t-requires : goal.items_at-t-requires
 items_at-t-requires c =

@@ -15,12 +15,11 @@ use Rattle.decompose.proofs.StageLaw.{Kept, Last, room_next, stored_last, zeros-
 use Rattle.decompose.proofs.stages.running_stage.Goals as goal
 
 pub loop-j-init : goal.loop-j-init
-loop-j-init c =
-    (
-      record { within = omega arith; same = record { zero = refl; one = refl; two = refl }; words = rw c.zeros-running.ensures (omega arith) },
-      zeros-last c.zeros-running.ensures,
-      no_gates (λ k. running_gate (k + 1)) (ap (λ (w : Sharing). digits_of c.args.x c.args.carries w zeros) (sym c.zeros-running.ensures)),
-    )
+loop-j-init c = (
+  record { within = omega arith; same = record { zero = refl; one = refl; two = refl }; words = rw c.zeros-running.ensures (omega arith) },
+  zeros-last c.zeros-running.ensures,
+  no_gates (λ k. running_gate (k + 1)) (ap (λ (w : Sharing). digits_of c.args.x c.args.carries w zeros) (sym c.zeros-running.ensures)),
+)
 
 pub items_at-t-requires : goal.items_at-t-requires
 items_at-t-requires c =

@@ -7,7 +7,10 @@ use Rattle.drawing.proofs.lines.put_masks.Goals as goal
 pub returns : goal.returns
 unfolding masks_line
 returns c =
-    record { writes = also c.put_field-a.ensures.writes
+    record {
+      writes = also c.put_field-a.ensures.writes
           (also c.put_field-b.ensures.writes
           (also c.put_field-c.ensures.writes c.put_field.ensures.writes (omega arith))
-          (omega arith)) (omega arith); short = omega arith }
+          (omega arith)) (omega arith);
+      short = omega arith;
+    }

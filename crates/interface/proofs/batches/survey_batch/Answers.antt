@@ -25,5 +25,8 @@ returns c =
     let masks : Place → List ℕ = three a.m0.now a.m1.now a.m2.now in
     let channels : Place → List ℕ = three a.c0.now a.c1.now a.c2.now in
     let results : Place → List ℕ = three a.z0.now a.z1.now a.z2.now in
-    record { is = batch-left a.width a.bits shares masks channels results a.answer.now c.decompose_batch-given.result c.if-answer-ne3.false
-          c.decompose_batch-given.ensures.is c.refusal.ensures c.write_answer.ensures; lent = (refl, refl, refl, refl, refl, refl) }
+    record {
+      is = batch-left a.width a.bits shares masks channels results a.answer.now c.decompose_batch-given.result c.if-answer-ne3.false
+          c.decompose_batch-given.ensures.is c.refusal.ensures c.write_answer.ensures;
+      lent = (refl, refl, refl, refl, refl, refl);
+    }

@@ -21,5 +21,8 @@ pub returns : goal.returns
 returns c =
     let unloaded = c.unload in
     let a = c.args in
-    record { is = laned (width_of a.r) a.l a.a0.now a.a1.now a.a2.now unloaded.new.z0 unloaded.new.z1 unloaded.new.z2
-          c.load.ensures.is c.work.ensures.is unloaded.ensures.is; long = unloaded.ensures.long }
+    record {
+      is = laned (width_of a.r) a.l a.a0.now a.a1.now a.a2.now unloaded.new.z0 unloaded.new.z1 unloaded.new.z2
+          c.load.ensures.is c.work.ensures.is unloaded.ensures.is;
+      long = unloaded.ensures.long;
+    }

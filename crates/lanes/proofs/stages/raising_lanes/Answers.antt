@@ -13,20 +13,19 @@ use Rattle.lanes.proofs.StageLaw.{Rising, none_kept, rising_all, rising_more, ri
 use Rattle.lanes.proofs.stages.raising_lanes.Goals as goal
 
 pub loop-j-init : goal.loop-j-init
-loop-j-init c =
-    (
-      record {
-        within = omega arith;
-        few = c.requires.count.0;
-        low = c.requires.count.1;
-        masks = c.requires.masks;
-        room = c.requires.channels;
-        same = record { zero = refl; one = refl; two = refl };
-        planes = c.requires.out;
-      },
-      (λ x q r a₀ totals long first. rising_none _ _ x q r a₀ _ _ long first),
-      (λ e far none. none),
-    )
+loop-j-init c = (
+  record {
+    within = omega arith;
+    few = c.requires.count.0;
+    low = c.requires.count.1;
+    masks = c.requires.masks;
+    room = c.requires.channels;
+    same = record { zero = refl; one = refl; two = refl };
+    planes = c.requires.out;
+  },
+  (λ x q r a₀ totals long first. rising_none _ _ x q r a₀ _ _ long first),
+  (λ e far none. none),
+)
 
 pub overflow_add-j : goal.overflow_add-j
 overflow_add-j c = omega (arith, c.loop-j-test.true, c.loop-j.invariant.0.few)
@@ -55,9 +54,12 @@ pub returns : goal.returns
 returns c =
     let head = c.loop-j in
     let a = c.args in
-    let same : head.j ≡ a.n = omega (arith, c.loop-j-test.false, head.invariant.0.within) in record { is = (λ x q r a₀ totals long first.
+    let same : head.j ≡ a.n = omega (arith, c.loop-j-test.false, head.invariant.0.within) in record {
+      is = (λ x q r a₀ totals long first.
           rising_all x q r a₀ a.s.now head.o c.store_planes-2.new.q head.carry c.planes_at-top.result head.invariant.0.few
           head.invariant.0.planes totals c.planes_at-top.ensures
           (c.store_planes-2.ensures.is ∙ ap (with_planes head.o a.n) c.words_xor-2.ensures)
-          (rw same at (head.invariant.1 x q r a₀ totals long first))); none = (λ e far none. none_kept head.o c.words_xor-2.result far (omega (arith, head.invariant.0.few)) head.invariant.0.planes
-          c.store_planes-2.ensures.is (head.invariant.2 e far none)) }
+          (rw same at (head.invariant.1 x q r a₀ totals long first)));
+      none = (λ e far none. none_kept head.o c.words_xor-2.result far (omega (arith, head.invariant.0.few)) head.invariant.0.planes
+          c.store_planes-2.ensures.is (head.invariant.2 e far none));
+    }

@@ -12,19 +12,18 @@ use Rattle.lanes.proofs.StageLaw.{Begun, Summing, summing_all, summing_more, sum
 use Rattle.lanes.proofs.stages.running_lanes.Goals as goal
 
 pub loop-i-init : goal.loop-i-init
-loop-i-init c =
-    (
-      record {
-        within = omega arith;
-        few = c.requires.count.0;
-        low = c.requires.count.1;
-        masks = c.requires.masks;
-        room = c.requires.channels;
-        same = record { zero = refl; one = refl; two = refl };
-        planes = c.total_in.ensures.long ∙ c.requires.carries;
-      },
-      (λ q begun. summing_none _ _ c.zeros-last.ensures begun),
-    )
+loop-i-init c = (
+  record {
+    within = omega arith;
+    few = c.requires.count.0;
+    low = c.requires.count.1;
+    masks = c.requires.masks;
+    room = c.requires.channels;
+    same = record { zero = refl; one = refl; two = refl };
+    planes = c.total_in.ensures.long ∙ c.requires.carries;
+  },
+  (λ q begun. summing_none _ _ c.zeros-last.ensures begun),
+)
 
 pub overflow_add-i-in-loop-i-2 : goal.overflow_add-i-in-loop-i-2
 overflow_add-i-in-loop-i-2 c = omega (arith, c.loop-i-test.true, c.loop-i.invariant.0.few)

@@ -5,7 +5,10 @@ use Rattle.lanes.proofs.words.total_in.Goals as goal
 
 pub returns : goal.returns
 returns c =
-    record { is = c.store_planes.ensures.is
+    record {
+      is = c.store_planes.ensures.is
           ∙ ap (with_planes c.args.s.now c.args.j)
           (c.words_xor-2.ensures ∙ ap (λ w. words_xor w c.args.last)
-          (c.words_xor.ensures ∙ ap₂ words_xor c.planes_at-b.ensures c.planes_at-u.ensures)); long = c.store_planes.ensures.long }
+          (c.words_xor.ensures ∙ ap₂ words_xor c.planes_at-b.ensures c.planes_at-u.ensures));
+      long = c.store_planes.ensures.long;
+    }

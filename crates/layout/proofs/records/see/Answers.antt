@@ -36,7 +36,7 @@ loop-i-preserved c =
     let head = c.loop-i in
     let is : c.if-not-is_sound.sound ≡ head.sound && c.is_sound.result
     = elim c.if-not-is_sound.branch [
-      then-not-is_sound w ↦ w.sound-is ∙ fails head.sound w.if-not-is_sound.true
+      | then-not-is_sound w ↦ w.sound-is ∙ fails head.sound w.if-not-is_sound.true
       | else-not-is_sound w ↦ w.sound-is ∙ holds head.sound w.if-not-is_sound.false
     ] in (
       omega arith,

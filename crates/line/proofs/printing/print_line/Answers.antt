@@ -7,8 +7,11 @@ use Rattle.line.proofs.printing.print_line.Goals as goal
 pub returns : goal.returns
 unfolding printed
 returns c =
-    record { writes = also c.put_field-a.ensures.writes
+    record {
+      writes = also c.put_field-a.ensures.writes
           (also c.put_field-b.ensures.writes
           (also c.put_field-c.ensures.writes
           (also c.put_field-d.ensures.writes c.put_field.ensures.writes (omega arith))
-          (omega arith)) (omega arith)) (omega arith); short = omega arith }
+          (omega arith)) (omega arith)) (omega arith);
+      short = omega arith;
+    }

@@ -14,8 +14,7 @@ four_times-requires c = c.requires.source.at c.loop-k.k (omega arith)
 
 pub loop-k-preserved : goal.loop-k-preserved
 loop-k-preserved c =
-    let head = c.loop-k in
-    (
+    let head = c.loop-k in (
       omega arith,
       simp length-set head.invariant.1,
       row_more head.y head.k c.four_times.result (four_times_at (modulus_of c.args.r) c.args.a.now) (omega arith)

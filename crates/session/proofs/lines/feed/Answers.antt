@@ -13,19 +13,18 @@ use Rattle.session.proofs.GrownLaw.{grown_none, grown_on}
 use Rattle.session.proofs.lines.feed.Goals as goal
 
 pub loop-i-init : goal.loop-i-init
-loop-i-init c =
-    (
-      record {
-        done = advanced_none _ _ 0 _;
-        within = omega arith;
-        short = omega arith;
-        long = refl;
-        machine = c.requires.machine;
-        masks = c.requires.masks;
-        items = c.requires.dealer;
-      },
-      (grown_none _ _ _ refl, (refl, (refl, refl))),
-    )
+loop-i-init c = (
+  record {
+    done = advanced_none _ _ 0 _;
+    within = omega arith;
+    short = omega arith;
+    long = refl;
+    machine = c.requires.machine;
+    masks = c.requires.masks;
+    items = c.requires.dealer;
+  },
+  (grown_none _ _ _ refl, (refl, (refl, refl))),
+)
 
 pub take_one-a-requires : goal.take_one-a-requires
 take_one-a-requires c =

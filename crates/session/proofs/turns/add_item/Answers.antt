@@ -9,9 +9,14 @@ use Rattle.session.proofs.turns.add_item.Goals as goal
 pub returns-then-at-ge-MOST : goal.returns-then-at-ge-MOST
 returns-then-at-ge-MOST c =
     let n = c.args.n in
-    record { is = λ ws t₀ t₁ t₂ ch.
+    record {
+      is = λ ws t₀ t₁ t₂ ch.
           c.decline.ensures.c_value ws t₀ t₁ t₂ _ ch
-          ∙ item_full _ _ _ _ n.dealer _ _ ch c.requires.run c.requires.few (omega arith); fits = same_dealer (ap (λ (n : Counts). n.dealer) c.decline.ensures.same) c.requires; masks = ap (λ (n : Counts). n.masks) c.decline.ensures.same; rest = λ T. grown_none n T _ c.decline.ensures.same }
+          ∙ item_full _ _ _ _ n.dealer _ _ ch c.requires.run c.requires.few (omega arith);
+      fits = same_dealer (ap (λ (n : Counts). n.dealer) c.decline.ensures.same) c.requires;
+      masks = ap (λ (n : Counts). n.masks) c.decline.ensures.same;
+      rest = λ T. grown_none n T _ c.decline.ensures.same;
+    }
 
 pub returns : goal.returns
 returns c =

@@ -9,9 +9,14 @@ use Rattle.session.proofs.turns.add_masks.Goals as goal
 pub returns-then-at-ge-MOST : goal.returns-then-at-ge-MOST
 returns-then-at-ge-MOST c =
     let n = c.args.n in
-    record { is = λ ws dealer ch.
+    record {
+      is = λ ws dealer ch.
           c.decline.ensures.c_value ws _ _ _ dealer ch
-          ∙ masks_full _ n.masks _ _ _ _ _ _ _ ch c.requires.zero c.requires.few (omega arith); fits = same_masks (ap (λ (n : Counts). n.masks) c.decline.ensures.same) c.requires; dealer = ap (λ (n : Counts). n.dealer) c.decline.ensures.same; rest = λ dealer. grown_none n _ dealer c.decline.ensures.same }
+          ∙ masks_full _ n.masks _ _ _ _ _ _ _ ch c.requires.zero c.requires.few (omega arith);
+      fits = same_masks (ap (λ (n : Counts). n.masks) c.decline.ensures.same) c.requires;
+      dealer = ap (λ (n : Counts). n.dealer) c.decline.ensures.same;
+      rest = λ dealer. grown_none n _ dealer c.decline.ensures.same;
+    }
 
 pub returns : goal.returns
 returns c =

@@ -32,8 +32,7 @@ overflow_add-i c =
 pub loop-i-preserved : goal.loop-i-preserved
 loop-i-preserved c =
     let inv = c.loop-i.invariant in
-    let i = c.loop-i.i in
-    (
+    let i = c.loop-i.i in (
       same_len_mid i (length c.loop-i.c0 - i) c.loop-i.c0 c.ring_gate-z.new.c0 c.ring_gate-z.auto.c0 ∙ inv.0,
       same_len_mid i (length c.loop-i.c1 - i) c.loop-i.c1 c.ring_gate-z.new.c1 c.ring_gate-z.auto.c1 ∙ inv.1,
       same_len_mid i (length c.loop-i.c2 - i) c.loop-i.c2 c.ring_gate-z.new.c2 c.ring_gate-z.auto.c2 ∙ inv.2,

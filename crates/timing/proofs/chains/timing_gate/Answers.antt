@@ -11,8 +11,11 @@ start_chain-requires c =
 
 pub returns-then-lengths_fit : goal.returns-then-lengths_fit
 returns-then-lengths_fit c =
-    record { is = ran-all _ _ _ _ _ c.of_width.ensures c.in-Named.is c.lengths_fit.ensures
-          c.if-lengths_fit.true c.triple-from.ensures c.triple-by.ensures c.start_chain.ensures; lent = (refl, refl, refl) }
+    record {
+      is = ran-all _ _ _ _ _ c.of_width.ensures c.in-Named.is c.lengths_fit.ensures
+          c.if-lengths_fit.true c.triple-from.ensures c.triple-by.ensures c.start_chain.ensures;
+      lent = (refl, refl, refl);
+    }
 
 pub returns-else-lengths_fit : goal.returns-else-lengths_fit
 returns-else-lengths_fit c =

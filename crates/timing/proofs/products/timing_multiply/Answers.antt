@@ -9,8 +9,11 @@ multiply_all-requires c =
 
 pub returns-then-same_lengths : goal.returns-then-same_lengths
 returns-then-same_lengths c =
-    record { is = filled _ _ _ _ c.of_width.ensures c.in-Named.is c.same_lengths.ensures
-          _ c.if-same_lengths.true c.multiply_all.auto.zs c.multiply_all.ensures; lent = (refl, refl) }
+    record {
+      is = filled _ _ _ _ c.of_width.ensures c.in-Named.is c.same_lengths.ensures
+          _ c.if-same_lengths.true c.multiply_all.auto.zs c.multiply_all.ensures;
+      lent = (refl, refl);
+    }
 
 pub returns-else-same_lengths : goal.returns-else-same_lengths
 returns-else-same_lengths c =
