@@ -133,10 +133,10 @@ fn dealing(job: &Job, tapes: &Tapes) -> String {
     let (masks, dealer) = (masks.join(" "), tapes.dealer.len());
     [
         "\n    record {".to_string(),
-        format!("      entries = {a} ∷ {b} ∷ afterDeals;"),
+        format!("      entries = {a} ∷ {b} ∷ after_deals;"),
         format!("      channels = three {channels};"),
-        format!("      masksLength = three {masks};"),
-        format!("      dealerLength = {dealer};"),
+        format!("      masks_length = three {masks};"),
+        format!("      dealer_length = {dealer};"),
         "    }".to_string(),
     ]
     .join("\n")
@@ -155,7 +155,7 @@ fn dealt(job: &Job) -> String {
 fn given(figures: &Figures) -> Vec<String> {
     let (job, run) = (&figures.job_j, &figures.tapes_j);
     let lent = run.dealer.len();
-    let lending = format!("record {{ act = o; masksLent = three n n n; dealerLent = {lent} }}");
+    let lending = format!("record {{ act = o; masks_lent = three n n n; dealer_lent = {lent} }}");
     let entry = |order: &Entry| entry(order, &run.masks[0]);
     let after_deals = lines(job.entries[2..].iter().map(entry));
     let dealing = dealing(job, run);
@@ -167,15 +167,15 @@ fn given(figures: &Figures) -> Vec<String> {
     let (t, turned) = (tapes(run, run), tapes(&figures.tapes_k, run));
     vec![
         format!("abbrev lending : ℕ → Order → Entry orders\nlending n o = {lending}\n"),
-        format!("unfoldable pub afterDeals : List (Entry orders)\nafterDeals ={after_deals}\n"),
+        format!("unfoldable pub after_deals : List (Entry orders)\nafter_deals ={after_deals}\n"),
         format!("unfoldable pub dealing : ℕ → ℕ → Job orders\ndealing a b ={dealing}\n"),
-        format!("abbrev pub J : Job orders\nJ = {j}\n"),
-        format!("abbrev pub K : Job orders\nK = {k}\n"),
+        format!("abbrev pub first_job : Job orders\nfirst_job = {j}\n"),
+        format!("abbrev pub second_job : Job orders\nsecond_job = {k}\n"),
         format!("abbrev tape₀ : List ℕ\ntape₀ ={t0}\n"),
         format!("abbrev tape₁ : List ℕ\ntape₁ ={t1}\n"),
         format!("abbrev tape₂ : List ℕ\ntape₂ ={t2}\n"),
-        format!("unfoldable pub T : Tapes\nT = {t}\n"),
-        format!("unfoldable pub T′ : Tapes\nT′ = {turned}\n"),
+        format!("unfoldable pub first_tapes : Tapes\nfirst_tapes = {t}\n"),
+        format!("unfoldable pub second_tapes : Tapes\nsecond_tapes = {turned}\n"),
     ]
 }
 
@@ -192,16 +192,16 @@ fn found(figures: &Figures) -> Vec<String> {
     let [sends, receives] = [OWN, FAR].map(|i| channel(&seen.channels[i]));
     vec![
         format!("abbrev pub table : List Line\ntable ={table}\n"),
-        format!("abbrev pub valuesJ : List ℕ\nvaluesJ = {values_j}\n"),
-        format!("abbrev pub valuesK : List ℕ\nvaluesK = {values_k}\n"),
+        format!("abbrev pub values_j : List ℕ\nvalues_j = {values_j}\n"),
+        format!("abbrev pub values_k : List ℕ\nvalues_k = {values_k}\n"),
         format!("unfoldable pub image : Hidden\nimage ={image}\n"),
         format!("unfoldable pub other : List ℕ\nother ={other}\n"),
-        format!("abbrev pub toldAfter : ℕ\ntoldAfter = {after}\n"),
-        format!("abbrev pub toldWord : ℕ\ntoldWord = {word}\n"),
-        format!("abbrev pub ownThen : List ℕ\nownThen = {own}\n"),
-        format!("abbrev pub farThen : List ℕ\nfarThen = {far}\n"),
-        format!("abbrev pub sendsThen : List ℕ\nsendsThen = {sends}\n"),
-        format!("abbrev pub receivesThen : List ℕ\nreceivesThen = {receives}\n"),
+        format!("abbrev pub told_after : ℕ\ntold_after = {after}\n"),
+        format!("abbrev pub told_word : ℕ\ntold_word = {word}\n"),
+        format!("abbrev pub own_then : List ℕ\nown_then = {own}\n"),
+        format!("abbrev pub far_then : List ℕ\nfar_then = {far}\n"),
+        format!("abbrev pub sends_then : List ℕ\nsends_then = {sends}\n"),
+        format!("abbrev pub receives_then : List ℕ\nreceives_then = {receives}\n"),
     ]
 }
 
