@@ -16,7 +16,7 @@ const JOB: &str = "target/bench/job";
 const PRINTED: &str = "target/bench/printed";
 /// Rattle, plain Rust, reference.
 const PROGRAMS: [&str; 3] = [
-    "target/bin/survey",
+    "crates/survey/out/survey",
     "target/bench/survey_plain",
     "target/bench/reference",
 ];

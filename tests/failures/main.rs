@@ -116,6 +116,8 @@ fn exit_status(tally: &mut Tally) {
         tally.case(same, || format!("{found:?}"));
     };
     let printed = read(PRINTED).expect("lines");
+    // The first run may have to prove the program, and tells so.
+    run(&["bash", "run", JOB], Stdio::null(), Stdio::null());
     case("/", Stdio::piped(), 1, b"", UNREAD);
     case(JOB, full(), 1, b"", UNWRITTEN);
     case(JOB, Stdio::piped(), 0, &printed, "");
