@@ -1,7 +1,7 @@
 /*
  * The three-unit survey set: one order on words, one tape, and 64 decompositions at once.
  *
- * `rt staticlib interface` writes target/staticlib/libinterface.a (x86-64 Linux). "01" is the scope paper,
+ * `rt lib` in crates/interface writes out/libinterface.a there (x86-64 Linux). "01" is the scope paper,
  * "02" its change requests; crates/layout/specs/Layout.antt says what each word is, crates/interface/specs/Calls.antt
  * what a call leaves.
  *
