@@ -1,4 +1,7 @@
 //! Times Rattle against plain Rust and against the reference, on the same inputs and in one run.
+//!
+//! bench           times every row but that of whole jobs, and prints them as lines
+//! bench FILE...   reads such lines, adds that row, and prints the tables
 
 mod batch;
 mod chains;
@@ -21,7 +24,9 @@ mod interface;
 mod steps;
 
 use jobs::draw::Draw;
-use measure::{passes, table, Row};
+use measure::{least, table, Row};
+
+const SEED: u64 = 20_240_601;
 
 /// Rows that document 000 has in its table 1, with its figure: millions a second, semi-honest, ten million values.
 const TABLE_1: [(&str, f64); 3] = [
@@ -44,21 +49,42 @@ fn table_1(rows: &[Row]) {
     }
 }
 
-fn main() {
-    let mut draw = Draw::new(20_240_601);
+/// One pass over the rows of this program, as lines.
+fn pass() {
+    let mut draw = Draw::new(SEED);
     chains::compare(&mut draw);
     orders::compare(&mut draw);
     batch::compare(&mut draw);
-    let mut rows = passes(|| {
-        let mut rows = chains::rows(&mut draw);
-        rows.extend(orders::rows(&mut draw));
-        rows.extend(batch::rows(&mut draw));
-        rows
-    });
-    rows.extend(whole::row(&mut draw));
+    let rows = [
+        chains::rows(&mut draw),
+        orders::rows(&mut draw),
+        batch::rows(&mut draw),
+    ];
+    for row in rows.iter().flatten() {
+        println!("{}", row.line());
+    }
+}
+
+/// The passes in these files and the row of whole jobs, as tables.
+fn tables(files: &[String]) {
+    let read = |file: &String| {
+        let text = std::fs::read_to_string(file).expect("a pass");
+        text.lines().map(Row::read).collect()
+    };
+    let mut rows = least(files.iter().map(read).collect());
+    rows.extend(whole::row(&mut Draw::new(SEED)));
     table(&rows);
     println!();
     batch::beside_single(&rows);
     println!();
     table_1(&rows);
+}
+
+fn main() {
+    let files: Vec<String> = std::env::args().skip(1).collect();
+    if files.is_empty() {
+        pass();
+    } else {
+        tables(&files);
+    }
 }

@@ -2,8 +2,6 @@
 
 use std::time::Instant;
 
-const PASSES: usize = 5;
-
 /// Nanoseconds for one call of each side: the least over rounds of so many turns.
 pub fn measure(rounds: usize, turns: usize, sides: &mut [&mut dyn FnMut()]) -> Vec<f64> {
     let mut least = vec![f64::INFINITY; sides.len()];
@@ -26,6 +24,20 @@ pub struct Row {
 }
 
 impl Row {
+    /// A line of a pass: the name and the times, with tabs between.
+    pub fn line(&self) -> String {
+        let times: String = self.times.iter().map(|time| format!("\t{time}")).collect();
+        format!("{}{times}", self.name)
+    }
+
+    pub fn read(line: &str) -> Row {
+        let mut fields = line.split('\t');
+        Row {
+            name: fields.next().expect("a name").to_string(),
+            times: fields.map(|time| time.parse().expect("a time")).collect(),
+        }
+    }
+
     fn print(&self) {
         let Row { name, times } = self;
         print!("{name:<28} {:>10.1}", times[0]);
@@ -36,17 +48,19 @@ impl Row {
     }
 }
 
-/// The rows of several passes, each time the least of them: what else the machine does lasts longer than a row.
-pub fn passes(mut pass: impl FnMut() -> Vec<Row>) -> Vec<Row> {
-    let mut rows = pass();
-    for _ in 1..PASSES {
-        for (row, again) in rows.iter_mut().zip(pass()) {
+/// The rows of several passes, each time the least of them: what else the machine does lasts longer than a row, and each
+/// pass is a program with its code in other places.
+pub fn least(passes: Vec<Vec<Row>>) -> Vec<Row> {
+    let less = |mut rows: Vec<Row>, again: Vec<Row>| {
+        for (row, again) in rows.iter_mut().zip(again) {
+            assert_eq!(row.name, again.name);
             for (least, time) in row.times.iter_mut().zip(again.times) {
                 *least = least.min(time);
             }
         }
-    }
-    rows
+        rows
+    };
+    passes.into_iter().reduce(less).expect("a pass")
 }
 
 pub fn table(rows: &[Row]) {

@@ -43,9 +43,21 @@ fn seeded(seed: u64) -> Job {
     }
 }
 
-/// The fixed jobs; short ones byte by byte too.
+/// The jobs that shift by every amount.
+fn shifts() -> Vec<Job> {
+    let jobs = jobs::shifts::jobs().into_iter().enumerate();
+    jobs.map(|(k, text)| Job {
+        name: format!("shifts, job {k}"),
+        text,
+        piece: 0,
+        counted: false,
+    })
+    .collect()
+}
+
+/// The fixed jobs: shifts, then those about the ends of input, short ones of these byte by byte too.
 fn fixed() -> Vec<Job> {
-    let mut list = Vec::new();
+    let mut list = shifts();
     for (k, text) in jobs::special::jobs().into_iter().enumerate() {
         for piece in [0, 1, 4093] {
             if piece != 1 || text.len() < 1_000 {

@@ -5,6 +5,7 @@ pub mod draw;
 pub mod edges;
 pub mod orders;
 pub mod records;
+pub mod shifts;
 pub mod special;
 pub mod tally;
 pub mod valid;

@@ -17,8 +17,11 @@ use jobs::tally::{argument, Tally};
 use reference::batch::{batch_words, NOT_64};
 use reference::layout::{prepare_words, step_words};
 use reference::machine::Lent;
+use reference::ring::Ring;
 
 const CASES: u64 = 200_000;
+/// Shifts by each amount in each ring; a fourth of them must be accepted.
+const SHIFTS: u64 = 200;
 /// Calls of `survey_batch` for each ring and bit count; half of them are spoilt.
 const BATCHES: u64 = 130;
 /// After so many cases all lent words are compared, not just those about
@@ -86,6 +89,32 @@ fn difference(ours: &Outcome, theirs: &Outcome) -> String {
     )
 }
 
+/// One order by the reference and by the library, which are lent the same words; the refusal, or none where words differ.
+fn run_step(
+    name: &str,
+    case: &steps::Case,
+    [ours, theirs]: [&mut Arena; 2],
+    tally: &mut Tally,
+) -> Option<u64> {
+    let expected = step_outcome(step_words, case, ours);
+    let found = step_outcome(interface::step, case, theirs);
+    let about = |arena: &Arena| arena.about(case.positions, case.width()).concat();
+    let same_words = about(ours) == about(theirs);
+    tally.case(expected == found && same_words, || {
+        let words = if same_words {
+            ""
+        } else {
+            " lent words differ;"
+        };
+        let text = difference(&expected, &found);
+        format!("{name}: {text}{words} {}", case.text())
+    });
+    if !same_words {
+        theirs.clone_from(ours);
+    }
+    same_words.then_some(expected.0)
+}
+
 fn run_steps(cases: u64, seed: u64, tally: &mut Tally) {
     let mut draw = Draw::new(seed);
     let mut ours = Arena::new(&mut draw);
@@ -99,29 +128,45 @@ fn run_steps(cases: u64, seed: u64, tally: &mut Tally) {
         if draw.chance(4) {
             case.damage(&mut draw);
         }
-        let expected = step_outcome(step_words, &case, &mut ours);
-        let found = step_outcome(interface::step, &case, &mut theirs);
-        let about = |arena: &Arena| arena.about(case.positions, case.width()).concat();
-        let same_words = about(&ours) == about(&theirs);
-        tally.case(expected == found && same_words, || {
-            let words = if same_words {
-                ""
-            } else {
-                " lent words differ;"
-            };
-            let text = difference(&expected, &found);
-            format!("step {number}: {text}{words} {}", case.text())
-        });
-        tally.meet("step", expected.0);
-        if expected.0 == 0 {
+        let name = format!("step {number}");
+        let met = run_step(&name, &case, [&mut ours, &mut theirs], tally);
+        if let Some(refusal) = met {
+            tally.meet("step", refusal);
+        }
+        if met == Some(0) {
             tally.meet("accepted kind", case.order[0]);
         }
-        if same_words && (number % FULL == 0 || number == cases) {
+        if met.is_some() && (number % FULL == 0 || number == cases) {
             let text = format!("words far from the positions differ by step {number}");
             tally.case(ours == theirs, || text);
         }
-        if !same_words {
-            theirs.clone_from(&ours);
+    }
+}
+
+/// Shifts by every amount in every ring, on tapes and channels about as long as they need.
+fn run_shifts(seed: u64, tally: &mut Tally) {
+    let mut draw = Draw::new(seed);
+    let mut ours = Arena::new(&mut draw);
+    let mut theirs = ours.clone();
+    for ring in Ring::all() {
+        for s in 0..=ring.width() - 3 {
+            let name = format!("shift by {s} in ring {}", ring.width());
+            let mut accepted = 0;
+            for _ in 0..SHIFTS {
+                if tally.failed() > ENOUGH {
+                    println!("stopped at {name}");
+                    return;
+                }
+                let case = steps::Case::shift(&mut draw, ring, s);
+                let met = run_step(&name, &case, [&mut ours, &mut theirs], tally);
+                accepted += u64::from(met == Some(0));
+            }
+            tally.case(accepted >= SHIFTS / 4, || {
+                format!("{name}: {accepted} accepted with equal words")
+            });
+            tally.case(ours == theirs, || {
+                format!("words far from a call's differ by the last {name}")
+            });
         }
     }
 }
@@ -201,6 +246,7 @@ fn main() {
     let mut tally = Tally::default();
     figures::run(&mut tally);
     run_steps(cases, seed, &mut tally);
+    run_shifts(seed, &mut tally);
     run_tapes(cases, seed, &mut tally);
     run_batches(seed, &mut tally);
     let all: Vec<u64> = (0..=11).collect();

@@ -5,7 +5,9 @@ use jobs::draw::Draw;
 use jobs::orders::{edgy, needs, sensible, Needs};
 use jobs::records;
 use reference::layout::{record_words, ANSWER_WORDS, ORDER_WORDS, RECORD_WORDS, REGISTER_WORDS};
-use reference::record::{LIMIT, REGISTERS};
+use reference::order::Order;
+use reference::record::{Record, Register, LIMIT, REGISTERS};
+use reference::ring::Ring;
 
 pub struct Case {
     pub order: Vec<u64>,
@@ -75,12 +77,25 @@ fn items<const N: usize>(draw: &mut Draw, moduli: &[u64]) -> Vec<[u64; N]> {
 
 impl Case {
     pub fn new(draw: &mut Draw) -> Case {
-        let mut record = records::sound(draw);
+        let record = records::sound(draw);
         let order = if draw.chance(75) {
             sensible(draw, &record)
         } else {
             edgy(draw, &record)
         };
+        Case::of(draw, record, order)
+    }
+
+    /// A shift by s of a number of a ring.
+    pub fn shift(draw: &mut Draw, ring: Ring, s: u64) -> Case {
+        let mut record = records::sound(draw);
+        let [d, x] = [0; 2].map(|_| draw.below(16));
+        let shares = [0; 3].map(|_| draw.item(ring.modulus()));
+        record.registers[x as usize] = Register::Number { ring, shares };
+        Case::of(draw, record, Order::Shift { d, x, s })
+    }
+
+    fn of(draw: &mut Draw, mut record: Record, order: Order) -> Case {
         let (gates, deals) = match needs(&record, order) {
             Needs::Masks(moduli) => (moduli, Vec::new()),
             Needs::Dealer(moduli) => (Vec::new(), moduli),

@@ -7,7 +7,7 @@ use native.Mathlib.Omega.{arith}
 use borrow.Author.Tests.{eqb-true, leb-true, not-false}
 use lib.Dec.{eqb, leb}
 use lib.ListN.{drop, get_or, length, replicate}
-use Rattle.ring.specs.Rings.{modulus, modulus_of, ring_of, width_of}
+use Rattle.ring.specs.Rings.{modulus_of, ring_of, width_of}
 use Rattle.ring.specs.declared.rings.OfWidth.{OfWidth}
 use Rattle.ring.specs.declared.rings.OfWidth.TheVariants.{Named, NoRing}
 use Rattle.ring.specs.declared.rings.Ring.{Ring}

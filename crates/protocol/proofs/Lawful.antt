@@ -25,7 +25,7 @@ use Rattle.act.specs.Acts as acts
 use Rattle.act.specs.Jobs.{Outcome}
 use Rattle.act.specs.Lawful.{AlikeActs, AlikeWork, Lawful, Lends, told_at}
 use Rattle.act.specs.Lawful as lawful
-use Rattle.act.specs.Works.{Public, Shared, Work, value_from}
+use Rattle.act.specs.Works.{Shared, Work, value_from}
 use Rattle.act.proofs.WorkLaw.{alike-back}
 use Rattle.outcome.specs.Theorems.{value_at}
 use Rattle.outcome.proofs.CheckLaw.{Passed, passed, passed_append}

@@ -1,6 +1,6 @@
 -- The record as data at three places: its columns, and the values of its registers.
 use Prim.Native.Nat.{ℕ}
-use mathlib.Core.List.{List, map}
+use mathlib.Core.List.{map}
 use mathlib.Core.Path.{◌≡◌, ap, fun_ext, refl, sym, ◌∙◌}
 use lib.ListN.{get_or-map, get_or, set}
 use Rattle.gate.specs.Places.{Place, p0, p1, p2, parts}

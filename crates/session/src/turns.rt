@@ -16,7 +16,7 @@ const MOST: usize = 512;
 
 // 01: "prints 13 as refusal and changes nothing".
 fn decline(n: Counts) -> Turn
-    ensures c_value { (ws t₀ t₁ t₂ dealer : List ℕ) (c : Place → List ℕ) → turned_of result ws t₀ t₁ t₂ dealer c ≡ declined (state_of n ws t₀ t₁ t₂ dealer c) }
+    ensures is { (ws t₀ t₁ t₂ dealer : List ℕ) (c : Place → List ℕ) → turned_of result ws t₀ t₁ t₂ dealer c ≡ declined (state_of n ws t₀ t₁ t₂ dealer c) }
     ensures same { result.counts ≡ n }
 {
     Turn {

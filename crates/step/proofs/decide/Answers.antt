@@ -26,7 +26,11 @@ pub attempt-requires : goal.attempt-requires
 attempt-requires c = (c.requires.0, (takes c.args.o c.way_of-w.ensures c.in-Attempt.is c.requires.0 c.requires.1).ready)
 
 pub open-requires : goal.open-requires
-open-requires c = (c.requires.0, source (takes c.args.o c.way_of-w.ensures c.in-Open.is c.requires.0 c.requires.1) c.requires.0 c.requires.1)
+open-requires c = (
+  c.requires.0,
+  source (takes c.args.o c.way_of-w.ensures c.in-Open.is c.requires.0 c.requires.1) c.requires.0
+      c.requires.1,
+)
 
 pub returns-in-Deal : goal.returns-in-Deal
 returns-in-Deal c = λ m is.

@@ -1,8 +1,7 @@
 use Prim.Native.Nat.{ℕ}
 use mathlib.Core.List.{List}
-use mathlib.Core.Path.{◌≡◌, refl}
+use mathlib.Core.Path.{refl}
 use Rattle.gate.specs.Places.{Place, three}
-use Rattle.step.specs.Found.{found_in}
 use Rattle.step.proofs.StepLaw.{answered, found_is}
 use Rattle.step.proofs.step.Goals as goal
 

@@ -1,13 +1,6 @@
 -- Invariant: an item is out of range where the word of the items seen has the top bit, or one from k on is.
-use Prim.Native.Nat.{◌-◌, ◌≤◌, ◌^◌}
-use mathlib.Core.Bool.{◌||◌}
-use mathlib.Core.Path.{◌≡◌}
 use native.Mathlib.Nat.{sub-zero}
 use native.Mathlib.Omega.{arith}
-use lib.Dec.{leb}
-use lib.ListN.{drop, replicate}
-use Rattle.gate.specs.Places.{three}
-use Rattle.machine.specs.Checks.{any_bad}
 use Rattle.attempt.proofs.ItemsLaw.{high_end, high_on}
 use Rattle.attempt.proofs.items.any_outside.Goals as goal
 
@@ -16,7 +9,8 @@ loop-k-preserved c =
     let a = c.args in (
       omega arith,
       high_on 63 a.p a.n c.loop-k.k c.loop-k.all a.m0.now a.m1.now a.m2.now c.loop-k.invariant.1
-          c.beyond.result c.beyond-in-loop-k.result c.beyond-in-loop-k-2.result c.beyond.ensures c.beyond-in-loop-k.ensures c.beyond-in-loop-k-2.ensures (omega arith),
+          c.beyond.result c.beyond-in-loop-k.result c.beyond-in-loop-k-2.result c.beyond.ensures c.beyond-in-loop-k.ensures
+          c.beyond-in-loop-k-2.ensures (omega arith),
     )
 
 pub returns : goal.returns

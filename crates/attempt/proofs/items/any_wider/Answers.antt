@@ -1,14 +1,10 @@
 -- Invariant: an item is no bit where the items seen have a bit above the lowest, or one from k on is.
-use Prim.Native.Nat.{ℕ, ◌-◌, ◌≤◌}
-use mathlib.Core.Bool.{◌||◌}
+use Prim.Native.Nat.{ℕ}
 use mathlib.Core.List.{List}
-use mathlib.Core.Path.{◌≡◌, refl}
+use mathlib.Core.Path.{refl}
 use native.Mathlib.Nat.{sub-zero}
 use native.Mathlib.Omega.{arith}
-use lib.Dec.{leb}
-use lib.ListN.{drop, get_or, replicate}
-use Rattle.gate.specs.Places.{three}
-use Rattle.machine.specs.Checks.{any_bad}
+use lib.ListN.{get_or}
 use Rattle.attempt.proofs.ItemsLaw.{high_end, high_on}
 use Rattle.attempt.proofs.items.any_wider.Goals as goal
 

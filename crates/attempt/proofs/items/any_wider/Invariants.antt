@@ -1,19 +1,16 @@
-use Prim.Native.Nat.{ℕ, ◌-◌, ◌≤◌}
+use Prim.Native.Nat.{◌-◌, ◌≤◌}
 use mathlib.Core.Bool.{◌||◌}
-use mathlib.Core.List.{List}
-use mathlib.Core.Path.{◌≡◌, refl}
-use native.Mathlib.Nat.{sub-zero}
-use native.Mathlib.Omega.{arith}
+use mathlib.Core.Path.{◌≡◌}
 use lib.Dec.{leb}
-use lib.ListN.{drop, get_or, replicate}
+use lib.ListN.{drop, replicate}
 use Rattle.gate.specs.Places.{three}
 use Rattle.machine.specs.Checks.{any_bad}
-use Rattle.attempt.proofs.ItemsLaw.{high_end, high_on}
 use Rattle.attempt.proofs.items.any_wider.Given as goal
 
 abbrev pub invariant-loop-k : goal.invariant-loop-k
 invariant-loop-k l =
-    (l.k ≤ l.n) × (any_bad (replicate l.n 2) (three l.m0 l.m1 l.m2) ≡ leb 2 l.all || any_bad (replicate (l.n - l.k) 2) (three (drop l.k l.m0) (drop l.k l.m1) (drop l.k l.m2)))
+    (l.k ≤ l.n) × (any_bad (replicate l.n 2) (three l.m0 l.m1 l.m2) ≡ leb 2 l.all || any_bad (replicate (l.n - l.k) 2)
+    (three (drop l.k l.m0) (drop l.k l.m1) (drop l.k l.m2)))
 
 abbrev pub decreases-loop-k : goal.decreases-loop-k
 decreases-loop-k l = l.n - l.k

@@ -4,7 +4,13 @@ use Rattle.attempt.proofs.words.words.Goals as goal
 
 pub multiply-requires : goal.multiply-requires
 multiply-requires c =
-    let whole = multiply_asks c.requires.fit c.requires.supplied c.in-Multiply.is in record { left = whole.0; right = whole.1.0; masks = whole.1.1.0; items = whole.1.1.1.0; room = whole.1.1.1.1 }
+    let whole = multiply_asks c.requires.fit c.requires.supplied c.in-Multiply.is in record {
+      left = whole.0;
+      right = whole.1.0;
+      masks = whole.1.1.0;
+      items = whole.1.1.1.0;
+      room = whole.1.1.1.1;
+    }
 
 pub returns-in-Multiply : goal.returns-in-Multiply
 returns-in-Multiply c =
@@ -12,7 +18,13 @@ returns-in-Multiply c =
 
 pub decompose-requires : goal.decompose-requires
 decompose-requires c =
-    let whole = decompose_asks c.requires.fit c.requires.supplied c.in-Decompose.is in record { source = whole.0; count = whole.1.0; masks = whole.1.1.0; channels = whole.1.1.1.0; items = whole.1.1.1.1 }
+    let whole = decompose_asks c.requires.fit c.requires.supplied c.in-Decompose.is in record {
+      source = whole.0;
+      count = whole.1.0;
+      masks = whole.1.1.0;
+      channels = whole.1.1.1.0;
+      items = whole.1.1.1.1;
+    }
 
 pub returns-in-Decompose : goal.returns-in-Decompose
 returns-in-Decompose c =
@@ -20,7 +32,13 @@ returns-in-Decompose c =
 
 pub convert-requires : goal.convert-requires
 convert-requires c =
-    let whole = convert_asks c.requires.fit c.requires.supplied c.in-Convert.is in record { source = whole.0; masks = whole.1.0; first = whole.1.1.0; items = whole.1.1.1.0; room = whole.1.1.1.1 }
+    let whole = convert_asks c.requires.fit c.requires.supplied c.in-Convert.is in record {
+      source = whole.0;
+      masks = whole.1.0;
+      first = whole.1.1.0;
+      items = whole.1.1.1.0;
+      room = whole.1.1.1.1;
+    }
 
 pub returns-in-Convert : goal.returns-in-Convert
 returns-in-Convert c =
@@ -28,7 +46,14 @@ returns-in-Convert c =
 
 pub shift-requires : goal.shift-requires
 shift-requires c =
-    let whole = shift_asks c.requires.fit c.requires.supplied c.in-Shift.is in record { source = whole.0; shift = whole.1.0; masks = whole.1.1.0; first = whole.1.1.1.0; items = whole.1.1.1.1.0; room = whole.1.1.1.1.1 }
+    let whole = shift_asks c.requires.fit c.requires.supplied c.in-Shift.is in record {
+      source = whole.0;
+      shift = whole.1.0;
+      masks = whole.1.1.0;
+      first = whole.1.1.1.0;
+      items = whole.1.1.1.1.0;
+      room = whole.1.1.1.1.1;
+    }
 
 pub returns-in-Shift : goal.returns-in-Shift
 returns-in-Shift c =
@@ -36,7 +61,12 @@ returns-in-Shift c =
 
 pub compose-requires : goal.compose-requires
 compose-requires c =
-    let whole = compose_asks c.requires.fit c.requires.supplied c.in-Compose.is in record { bits = whole.0; masks = whole.1.0; items = whole.1.1.0; room = whole.1.1.1 }
+    let whole = compose_asks c.requires.fit c.requires.supplied c.in-Compose.is in record {
+      bits = whole.0;
+      masks = whole.1.0;
+      items = whole.1.1.0;
+      room = whole.1.1.1;
+    }
 
 pub returns-in-Compose : goal.returns-in-Compose
 returns-in-Compose c =

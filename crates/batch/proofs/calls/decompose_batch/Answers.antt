@@ -14,7 +14,10 @@ returns-then-not_count c =
     let masks : Place → List ℕ = three a.m0.now a.m1.now a.m2.now in
     let channels : Place → List ℕ = three a.c0.now a.c1.now a.c2.now in
     let results : Place → List ℕ = three a.z0.now a.z1.now a.z2.now in
-    record { is = length_met a.e a.l shares masks channels results c.not_count.ensures c.not_count-2.ensures c.if-not_count.true; lent = (refl, refl, refl, refl, refl, refl) }
+    record {
+      is = length_met a.e a.l shares masks channels results c.not_count.ensures c.not_count-2.ensures c.if-not_count.true;
+      lent = (refl, refl, refl, refl, refl, refl);
+    }
 
 pub returns-in-NoRing : goal.returns-in-NoRing
 returns-in-NoRing c =

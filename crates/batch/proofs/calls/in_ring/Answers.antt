@@ -10,7 +10,14 @@ run-requires c =
     let a = c.args in
     let good = ready a.r a.l a.a0.now a.a1.now a.a2.now a.m0.now a.m1.now a.m2.now a.c0.now a.c1.now a.c2.now
     c.figures_why.ensures c.in-Fine.is in
-    record { count = good.0; masks = good.1.0; channels = good.1.1.0; lengths = c.requires.lengths; results = c.requires.results; source = good.1.1.1 }
+    record {
+      count = good.0;
+      masks = good.1.0;
+      channels = good.1.1.0;
+      lengths = c.requires.lengths;
+      results = c.requires.results;
+      source = good.1.1.1;
+    }
 
 pub returns-in-Because : goal.returns-in-Because
 returns-in-Because c =

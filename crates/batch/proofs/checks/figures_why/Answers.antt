@@ -4,7 +4,7 @@ use mathlib.Core.Path.{ap}
 use Prim.Native.Nat.{ℕ, ◌≤◌}
 use mathlib.Core.List.{List}
 use native.Mathlib.Omega.{arith}
-use borrow.Author.Tests.{leb-true, not-false}
+use borrow.Author.Tests.{leb-true}
 use lib.Dec.{leb}
 use Rattle.gate.specs.Places.{Place, three}
 use Rattle.machine.specs.Checks.{Lengths}
@@ -19,7 +19,10 @@ overflow_sub-most c = omega (arith, c.width-most.ensures, width_ge c.args.r)
 
 pub any_outside-requires : goal.any_outside-requires
 any_outside-requires c =
-    record { modulus = omega (arith, c.modulus-p.ensures, modulus-lt c.args.r); long = record { zero = omega (arith, c.requires.0); one = omega (arith, c.requires.1); two = omega (arith, c.requires.2) } }
+    record {
+      modulus = omega (arith, c.modulus-p.ensures, modulus-lt c.args.r);
+      long = record { zero = omega (arith, c.requires.0); one = omega (arith, c.requires.1); two = omega (arith, c.requires.2) };
+    }
 
 -- l is at most e - 2, so below 60
 few : (c : goal.Else-any_outside) → c.args.l ≤ 59

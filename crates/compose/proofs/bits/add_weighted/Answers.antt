@@ -6,7 +6,10 @@ use Rattle.compose.proofs.bits.add_weighted.Goals as goal
 
 pub returns : goal.returns
 returns c =
-    record { is = each _ c.add_rotated-s0.ensures.is c.add_rotated-s1.ensures.is c.add_rotated-s2.ensures.is; below = record { zero = c.add_rotated-s0.ensures.below; one = c.add_rotated-s1.ensures.below; two = c.add_rotated-s2.ensures.below } }
+    record {
+      is = each _ c.add_rotated-s0.ensures.is c.add_rotated-s1.ensures.is c.add_rotated-s2.ensures.is;
+      below = record { zero = c.add_rotated-s0.ensures.below; one = c.add_rotated-s1.ensures.below; two = c.add_rotated-s2.ensures.below };
+    }
 
 pub add_rotated-s0-requires : goal.add_rotated-s0-requires
 add_rotated-s0-requires c =

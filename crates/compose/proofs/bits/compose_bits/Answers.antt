@@ -1,10 +1,10 @@
 -- Invariant: k bits are composed.
-use Prim.Native.Nat.{◌*◌, ◌-◌, ◌<◌}
+use Prim.Native.Nat.{◌*◌}
 use native.Mathlib.Omega.{arith}
 use Rattle.ring.specs.Rings.{Sized}
 use Rattle.ring.proofs.RangeLaw.{sized, sized_gt}
 use Rattle.circuit.proofs.LentLaw.{below_on, long_on}
-use Rattle.compose.proofs.TurnLaw.{Reached, Turn, all-summed, at-start, turn_of, went_on}
+use Rattle.compose.proofs.TurnLaw.{Turn, all-summed, at-start, turn_of, went_on}
 use Rattle.compose.proofs.bits.compose_bits.Goals as goal
 
 pub loop-k-init : goal.loop-k-init
@@ -16,16 +16,24 @@ loop-k-init c =
 turn : (c : goal.In-loop-k) → Turn c.modulus-p.result c.args.from c.loop-k.k
     c.args.m0.now c.args.m1.now c.args.m2.now c.loop-k.c0 c.loop-k.c1 c.loop-k.c2
 turn c =
-    turn_of c.loop-k.invariant.0 c.loop-k-test.true c.requires.bits c.requires.masks (rw c.modulus-p.ensures c.requires.items) c.requires.room
+    turn_of c.loop-k.invariant.0 c.loop-k-test.true c.requires.bits c.requires.masks (rw c.modulus-p.ensures c.requires.items)
+    c.requires.room
 
 pub join_bit-b-requires : goal.join_bit-b-requires
 join_bit-b-requires c =
     let turn : Turn c.modulus-p.result c.args.from c.loop-k.k
-    c.args.m0.now c.args.m1.now c.args.m2.now c.loop-k.c0 c.loop-k.c1 c.loop-k.c2 = turn_of c.loop-k.invariant.0 c.loop-k-test.true c.requires.bits c.requires.masks (rw c.modulus-p.ensures c.requires.items) c.requires.room in
+    c.args.m0.now c.args.m1.now c.args.m2.now c.loop-k.c0 c.loop-k.c1 c.loop-k.c2 = turn_of c.loop-k.invariant.0
+    c.loop-k-test.true c.requires.bits c.requires.masks (rw c.modulus-p.ensures c.requires.items) c.requires.room in
     let known : Sized c.width-e.result c.modulus-p.result = sized c.args.r c.width-e.ensures c.modulus-p.ensures in
     let facts = turn in
     let k = c.loop-k.k in
-    record { sized = known; place = facts.place; masks = long_on 2 (2 * k) facts.masks; items = below_on _ 2 (2 * k) facts.items; room = long_on 2 (2 * k) facts.room }
+    record {
+      sized = known;
+      place = facts.place;
+      masks = long_on 2 (2 * k) facts.masks;
+      items = below_on _ 2 (2 * k) facts.items;
+      room = long_on 2 (2 * k) facts.room;
+    }
 
 pub add_weighted-sum-requires : goal.add_weighted-sum-requires
 add_weighted-sum-requires c =
@@ -69,97 +77,113 @@ slice_bounds-join_bit-start c =
 pub offset_bounds-m1-at : goal.offset_bounds-m1-at
 offset_bounds-m1-at c =
     let turn : Turn c.modulus-p.result c.args.from c.loop-k.k
-    c.args.m0.now c.args.m1.now c.args.m2.now c.loop-k.c0 c.loop-k.c1 c.loop-k.c2 = turn_of c.loop-k.invariant.0 c.loop-k-test.true c.requires.bits c.requires.masks (rw c.modulus-p.ensures c.requires.items) c.requires.room in
+    c.args.m0.now c.args.m1.now c.args.m2.now c.loop-k.c0 c.loop-k.c1 c.loop-k.c2 = turn_of c.loop-k.invariant.0
+    c.loop-k-test.true c.requires.bits c.requires.masks (rw c.modulus-p.ensures c.requires.items) c.requires.room in
     omega (arith, turn)
 
 pub slice_bounds-join_bit-count-in-loop-k : goal.slice_bounds-join_bit-count-in-loop-k
 slice_bounds-join_bit-count-in-loop-k c =
     let turn : Turn c.modulus-p.result c.args.from c.loop-k.k
-    c.args.m0.now c.args.m1.now c.args.m2.now c.loop-k.c0 c.loop-k.c1 c.loop-k.c2 = turn_of c.loop-k.invariant.0 c.loop-k-test.true c.requires.bits c.requires.masks (rw c.modulus-p.ensures c.requires.items) c.requires.room in
+    c.args.m0.now c.args.m1.now c.args.m2.now c.loop-k.c0 c.loop-k.c1 c.loop-k.c2 = turn_of c.loop-k.invariant.0
+    c.loop-k-test.true c.requires.bits c.requires.masks (rw c.modulus-p.ensures c.requires.items) c.requires.room in
     omega (arith, turn)
 
 pub slice_bounds-join_bit-start-in-loop-k : goal.slice_bounds-join_bit-start-in-loop-k
 slice_bounds-join_bit-start-in-loop-k c =
     let turn : Turn c.modulus-p.result c.args.from c.loop-k.k
-    c.args.m0.now c.args.m1.now c.args.m2.now c.loop-k.c0 c.loop-k.c1 c.loop-k.c2 = turn_of c.loop-k.invariant.0 c.loop-k-test.true c.requires.bits c.requires.masks (rw c.modulus-p.ensures c.requires.items) c.requires.room in
+    c.args.m0.now c.args.m1.now c.args.m2.now c.loop-k.c0 c.loop-k.c1 c.loop-k.c2 = turn_of c.loop-k.invariant.0
+    c.loop-k-test.true c.requires.bits c.requires.masks (rw c.modulus-p.ensures c.requires.items) c.requires.room in
     omega (arith, turn)
 
 pub offset_bounds-m2-at : goal.offset_bounds-m2-at
 offset_bounds-m2-at c =
     let turn : Turn c.modulus-p.result c.args.from c.loop-k.k
-    c.args.m0.now c.args.m1.now c.args.m2.now c.loop-k.c0 c.loop-k.c1 c.loop-k.c2 = turn_of c.loop-k.invariant.0 c.loop-k-test.true c.requires.bits c.requires.masks (rw c.modulus-p.ensures c.requires.items) c.requires.room in
+    c.args.m0.now c.args.m1.now c.args.m2.now c.loop-k.c0 c.loop-k.c1 c.loop-k.c2 = turn_of c.loop-k.invariant.0
+    c.loop-k-test.true c.requires.bits c.requires.masks (rw c.modulus-p.ensures c.requires.items) c.requires.room in
     omega (arith, turn)
 
 pub slice_bounds-join_bit-count-in-loop-k-2 : goal.slice_bounds-join_bit-count-in-loop-k-2
 slice_bounds-join_bit-count-in-loop-k-2 c =
     let turn : Turn c.modulus-p.result c.args.from c.loop-k.k
-    c.args.m0.now c.args.m1.now c.args.m2.now c.loop-k.c0 c.loop-k.c1 c.loop-k.c2 = turn_of c.loop-k.invariant.0 c.loop-k-test.true c.requires.bits c.requires.masks (rw c.modulus-p.ensures c.requires.items) c.requires.room in
+    c.args.m0.now c.args.m1.now c.args.m2.now c.loop-k.c0 c.loop-k.c1 c.loop-k.c2 = turn_of c.loop-k.invariant.0
+    c.loop-k-test.true c.requires.bits c.requires.masks (rw c.modulus-p.ensures c.requires.items) c.requires.room in
     omega (arith, turn)
 
 pub slice_bounds-join_bit-start-in-loop-k-2 : goal.slice_bounds-join_bit-start-in-loop-k-2
 slice_bounds-join_bit-start-in-loop-k-2 c =
     let turn : Turn c.modulus-p.result c.args.from c.loop-k.k
-    c.args.m0.now c.args.m1.now c.args.m2.now c.loop-k.c0 c.loop-k.c1 c.loop-k.c2 = turn_of c.loop-k.invariant.0 c.loop-k-test.true c.requires.bits c.requires.masks (rw c.modulus-p.ensures c.requires.items) c.requires.room in
+    c.args.m0.now c.args.m1.now c.args.m2.now c.loop-k.c0 c.loop-k.c1 c.loop-k.c2 = turn_of c.loop-k.invariant.0
+    c.loop-k-test.true c.requires.bits c.requires.masks (rw c.modulus-p.ensures c.requires.items) c.requires.room in
     omega (arith, turn)
 
 pub offset_bounds-c0-at : goal.offset_bounds-c0-at
 offset_bounds-c0-at c =
     let turn : Turn c.modulus-p.result c.args.from c.loop-k.k
-    c.args.m0.now c.args.m1.now c.args.m2.now c.loop-k.c0 c.loop-k.c1 c.loop-k.c2 = turn_of c.loop-k.invariant.0 c.loop-k-test.true c.requires.bits c.requires.masks (rw c.modulus-p.ensures c.requires.items) c.requires.room in
+    c.args.m0.now c.args.m1.now c.args.m2.now c.loop-k.c0 c.loop-k.c1 c.loop-k.c2 = turn_of c.loop-k.invariant.0
+    c.loop-k-test.true c.requires.bits c.requires.masks (rw c.modulus-p.ensures c.requires.items) c.requires.room in
     omega (arith, turn)
 
 pub slice_bounds-join_bit-count-in-loop-k-3 : goal.slice_bounds-join_bit-count-in-loop-k-3
 slice_bounds-join_bit-count-in-loop-k-3 c =
     let turn : Turn c.modulus-p.result c.args.from c.loop-k.k
-    c.args.m0.now c.args.m1.now c.args.m2.now c.loop-k.c0 c.loop-k.c1 c.loop-k.c2 = turn_of c.loop-k.invariant.0 c.loop-k-test.true c.requires.bits c.requires.masks (rw c.modulus-p.ensures c.requires.items) c.requires.room in
+    c.args.m0.now c.args.m1.now c.args.m2.now c.loop-k.c0 c.loop-k.c1 c.loop-k.c2 = turn_of c.loop-k.invariant.0
+    c.loop-k-test.true c.requires.bits c.requires.masks (rw c.modulus-p.ensures c.requires.items) c.requires.room in
     omega (arith, turn)
 
 pub slice_bounds-join_bit-start-in-loop-k-3 : goal.slice_bounds-join_bit-start-in-loop-k-3
 slice_bounds-join_bit-start-in-loop-k-3 c =
     let turn : Turn c.modulus-p.result c.args.from c.loop-k.k
-    c.args.m0.now c.args.m1.now c.args.m2.now c.loop-k.c0 c.loop-k.c1 c.loop-k.c2 = turn_of c.loop-k.invariant.0 c.loop-k-test.true c.requires.bits c.requires.masks (rw c.modulus-p.ensures c.requires.items) c.requires.room in
+    c.args.m0.now c.args.m1.now c.args.m2.now c.loop-k.c0 c.loop-k.c1 c.loop-k.c2 = turn_of c.loop-k.invariant.0
+    c.loop-k-test.true c.requires.bits c.requires.masks (rw c.modulus-p.ensures c.requires.items) c.requires.room in
     omega (arith, turn)
 
 pub offset_bounds-c1-at : goal.offset_bounds-c1-at
 offset_bounds-c1-at c =
     let turn : Turn c.modulus-p.result c.args.from c.loop-k.k
-    c.args.m0.now c.args.m1.now c.args.m2.now c.loop-k.c0 c.loop-k.c1 c.loop-k.c2 = turn_of c.loop-k.invariant.0 c.loop-k-test.true c.requires.bits c.requires.masks (rw c.modulus-p.ensures c.requires.items) c.requires.room in
+    c.args.m0.now c.args.m1.now c.args.m2.now c.loop-k.c0 c.loop-k.c1 c.loop-k.c2 = turn_of c.loop-k.invariant.0
+    c.loop-k-test.true c.requires.bits c.requires.masks (rw c.modulus-p.ensures c.requires.items) c.requires.room in
     omega (arith, turn)
 
 pub slice_bounds-join_bit-count-in-loop-k-4 : goal.slice_bounds-join_bit-count-in-loop-k-4
 slice_bounds-join_bit-count-in-loop-k-4 c =
     let turn : Turn c.modulus-p.result c.args.from c.loop-k.k
-    c.args.m0.now c.args.m1.now c.args.m2.now c.loop-k.c0 c.loop-k.c1 c.loop-k.c2 = turn_of c.loop-k.invariant.0 c.loop-k-test.true c.requires.bits c.requires.masks (rw c.modulus-p.ensures c.requires.items) c.requires.room in
+    c.args.m0.now c.args.m1.now c.args.m2.now c.loop-k.c0 c.loop-k.c1 c.loop-k.c2 = turn_of c.loop-k.invariant.0
+    c.loop-k-test.true c.requires.bits c.requires.masks (rw c.modulus-p.ensures c.requires.items) c.requires.room in
     omega (arith, turn)
 
 pub slice_bounds-join_bit-start-in-loop-k-4 : goal.slice_bounds-join_bit-start-in-loop-k-4
 slice_bounds-join_bit-start-in-loop-k-4 c =
     let turn : Turn c.modulus-p.result c.args.from c.loop-k.k
-    c.args.m0.now c.args.m1.now c.args.m2.now c.loop-k.c0 c.loop-k.c1 c.loop-k.c2 = turn_of c.loop-k.invariant.0 c.loop-k-test.true c.requires.bits c.requires.masks (rw c.modulus-p.ensures c.requires.items) c.requires.room in
+    c.args.m0.now c.args.m1.now c.args.m2.now c.loop-k.c0 c.loop-k.c1 c.loop-k.c2 = turn_of c.loop-k.invariant.0
+    c.loop-k-test.true c.requires.bits c.requires.masks (rw c.modulus-p.ensures c.requires.items) c.requires.room in
     omega (arith, turn)
 
 pub offset_bounds-c2-at : goal.offset_bounds-c2-at
 offset_bounds-c2-at c =
     let turn : Turn c.modulus-p.result c.args.from c.loop-k.k
-    c.args.m0.now c.args.m1.now c.args.m2.now c.loop-k.c0 c.loop-k.c1 c.loop-k.c2 = turn_of c.loop-k.invariant.0 c.loop-k-test.true c.requires.bits c.requires.masks (rw c.modulus-p.ensures c.requires.items) c.requires.room in
+    c.args.m0.now c.args.m1.now c.args.m2.now c.loop-k.c0 c.loop-k.c1 c.loop-k.c2 = turn_of c.loop-k.invariant.0
+    c.loop-k-test.true c.requires.bits c.requires.masks (rw c.modulus-p.ensures c.requires.items) c.requires.room in
     omega (arith, turn)
 
 pub slice_bounds-join_bit-count-in-loop-k-5 : goal.slice_bounds-join_bit-count-in-loop-k-5
 slice_bounds-join_bit-count-in-loop-k-5 c =
     let turn : Turn c.modulus-p.result c.args.from c.loop-k.k
-    c.args.m0.now c.args.m1.now c.args.m2.now c.loop-k.c0 c.loop-k.c1 c.loop-k.c2 = turn_of c.loop-k.invariant.0 c.loop-k-test.true c.requires.bits c.requires.masks (rw c.modulus-p.ensures c.requires.items) c.requires.room in
+    c.args.m0.now c.args.m1.now c.args.m2.now c.loop-k.c0 c.loop-k.c1 c.loop-k.c2 = turn_of c.loop-k.invariant.0
+    c.loop-k-test.true c.requires.bits c.requires.masks (rw c.modulus-p.ensures c.requires.items) c.requires.room in
     omega (arith, turn)
 
 pub slice_bounds-join_bit-start-in-loop-k-5 : goal.slice_bounds-join_bit-start-in-loop-k-5
 slice_bounds-join_bit-start-in-loop-k-5 c =
     let turn : Turn c.modulus-p.result c.args.from c.loop-k.k
-    c.args.m0.now c.args.m1.now c.args.m2.now c.loop-k.c0 c.loop-k.c1 c.loop-k.c2 = turn_of c.loop-k.invariant.0 c.loop-k-test.true c.requires.bits c.requires.masks (rw c.modulus-p.ensures c.requires.items) c.requires.room in
+    c.args.m0.now c.args.m1.now c.args.m2.now c.loop-k.c0 c.loop-k.c1 c.loop-k.c2 = turn_of c.loop-k.invariant.0
+    c.loop-k-test.true c.requires.bits c.requires.masks (rw c.modulus-p.ensures c.requires.items) c.requires.room in
     omega (arith, turn)
 
 pub overflow_step-k : goal.overflow_step-k
 overflow_step-k c =
     let turn : Turn c.modulus-p.result c.args.from c.loop-k.k
-    c.args.m0.now c.args.m1.now c.args.m2.now c.loop-k.c0 c.loop-k.c1 c.loop-k.c2 = turn_of c.loop-k.invariant.0 c.loop-k-test.true c.requires.bits c.requires.masks (rw c.modulus-p.ensures c.requires.items) c.requires.room in
+    c.args.m0.now c.args.m1.now c.args.m2.now c.loop-k.c0 c.loop-k.c1 c.loop-k.c2 = turn_of c.loop-k.invariant.0
+    c.loop-k-test.true c.requires.bits c.requires.masks (rw c.modulus-p.ensures c.requires.items) c.requires.room in
     omega (arith, turn)
 
 pub loop-k-smaller : goal.loop-k-smaller

@@ -1,9 +1,5 @@
-use Prim.Native.Nat.{◌*◌, ◌-◌, ◌<◌}
-use native.Mathlib.Omega.{arith}
-use Rattle.ring.specs.Rings.{Sized}
-use Rattle.ring.proofs.RangeLaw.{sized, sized_gt}
-use Rattle.circuit.proofs.LentLaw.{below_on, long_on}
-use Rattle.compose.proofs.TurnLaw.{Reached, Turn, all-summed, at-start, turn_of, went_on}
+use Prim.Native.Nat.{◌-◌, ◌<◌}
+use Rattle.compose.proofs.TurnLaw.{Reached}
 use Rattle.compose.proofs.bits.compose_bits.Given as goal
 
 abbrev pub invariant-loop-k : goal.invariant-loop-k

@@ -9,7 +9,12 @@ use Rattle.compose.proofs.bits.join_bit.Goals as goal
 
 pub join_first-half-requires : goal.join_first-half-requires
 join_first-half-requires c =
-    record { sized = c.requires.sized; place = c.requires.place; items = items_in (omega arith) c.items_at-t0.ensures c.requires.items; room = long_less (omega arith) c.requires.room }
+    record {
+      sized = c.requires.sized;
+      place = c.requires.place;
+      items = items_in (omega arith) c.items_at-t0.ensures c.requires.items;
+      room = long_less (omega arith) c.requires.room;
+    }
 
 -- the channels between the two gates
 room : (c : goal.After-items_at-t1) → Long 2 c.join_first-half.new.c0 c.join_first-half.new.c1 c.join_first-half.new.c2
@@ -19,13 +24,27 @@ room c =
 
 pub join_last-requires : goal.join_last-requires
 join_last-requires c =
-    let room : Long 2 c.join_first-half.new.c0 c.join_first-half.new.c1 c.join_first-half.new.c2 = long_same (record { zero = c.join_first-half.auto.c0; one = c.join_first-half.auto.c1; two = c.join_first-half.auto.c2 })
+    let room : Long 2 c.join_first-half.new.c0 c.join_first-half.new.c1 c.join_first-half.new.c2 = long_same (record {
+      zero = c.join_first-half.auto.c0;
+      one = c.join_first-half.auto.c1;
+      two = c.join_first-half.auto.c2;
+    })
     c.requires.room in
-    record { sized = c.requires.sized; place = c.requires.place; half = c.join_first-half.ensures.below; items = items_in (omega arith) c.items_at-t1.ensures c.requires.items; room = long_on 1 1 room }
+    record {
+      sized = c.requires.sized;
+      place = c.requires.place;
+      half = c.join_first-half.ensures.below;
+      items = items_in (omega arith) c.items_at-t1.ensures c.requires.items;
+      room = long_on 1 1 room;
+    }
 
 pub returns : goal.returns
 returns c =
-    let room : Long 2 c.join_first-half.new.c0 c.join_first-half.new.c1 c.join_first-half.new.c2 = long_same (record { zero = c.join_first-half.auto.c0; one = c.join_first-half.auto.c1; two = c.join_first-half.auto.c2 })
+    let room : Long 2 c.join_first-half.new.c0 c.join_first-half.new.c1 c.join_first-half.new.c2 = long_same (record {
+      zero = c.join_first-half.auto.c0;
+      one = c.join_first-half.auto.c1;
+      two = c.join_first-half.auto.c2;
+    })
     c.requires.room in
     record {
       is = bit_joined (omega (arith, sized_gt c.requires.sized)) (long_less (omega arith) c.requires.room) (long_on 1 1 room)
@@ -43,24 +62,40 @@ slice_bounds-join_last-start c =
 
 pub slice_bounds-join_last-count-2 : goal.slice_bounds-join_last-count-2
 slice_bounds-join_last-count-2 c =
-    let room : Long 2 c.join_first-half.new.c0 c.join_first-half.new.c1 c.join_first-half.new.c2 = long_same (record { zero = c.join_first-half.auto.c0; one = c.join_first-half.auto.c1; two = c.join_first-half.auto.c2 })
+    let room : Long 2 c.join_first-half.new.c0 c.join_first-half.new.c1 c.join_first-half.new.c2 = long_same (record {
+      zero = c.join_first-half.auto.c0;
+      one = c.join_first-half.auto.c1;
+      two = c.join_first-half.auto.c2;
+    })
     c.requires.room in
     omega (arith, room)
 
 pub slice_bounds-join_last-start-2 : goal.slice_bounds-join_last-start-2
 slice_bounds-join_last-start-2 c =
-    let room : Long 2 c.join_first-half.new.c0 c.join_first-half.new.c1 c.join_first-half.new.c2 = long_same (record { zero = c.join_first-half.auto.c0; one = c.join_first-half.auto.c1; two = c.join_first-half.auto.c2 })
+    let room : Long 2 c.join_first-half.new.c0 c.join_first-half.new.c1 c.join_first-half.new.c2 = long_same (record {
+      zero = c.join_first-half.auto.c0;
+      one = c.join_first-half.auto.c1;
+      two = c.join_first-half.auto.c2;
+    })
     c.requires.room in
     omega (arith, room)
 
 pub slice_bounds-join_last-count-3 : goal.slice_bounds-join_last-count-3
 slice_bounds-join_last-count-3 c =
-    let room : Long 2 c.join_first-half.new.c0 c.join_first-half.new.c1 c.join_first-half.new.c2 = long_same (record { zero = c.join_first-half.auto.c0; one = c.join_first-half.auto.c1; two = c.join_first-half.auto.c2 })
+    let room : Long 2 c.join_first-half.new.c0 c.join_first-half.new.c1 c.join_first-half.new.c2 = long_same (record {
+      zero = c.join_first-half.auto.c0;
+      one = c.join_first-half.auto.c1;
+      two = c.join_first-half.auto.c2;
+    })
     c.requires.room in
     omega (arith, room)
 
 pub slice_bounds-join_last-start-3 : goal.slice_bounds-join_last-start-3
 slice_bounds-join_last-start-3 c =
-    let room : Long 2 c.join_first-half.new.c0 c.join_first-half.new.c1 c.join_first-half.new.c2 = long_same (record { zero = c.join_first-half.auto.c0; one = c.join_first-half.auto.c1; two = c.join_first-half.auto.c2 })
+    let room : Long 2 c.join_first-half.new.c0 c.join_first-half.new.c1 c.join_first-half.new.c2 = long_same (record {
+      zero = c.join_first-half.auto.c0;
+      one = c.join_first-half.auto.c1;
+      two = c.join_first-half.auto.c2;
+    })
     c.requires.room in
     omega (arith, room)

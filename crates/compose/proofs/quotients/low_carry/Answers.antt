@@ -8,7 +8,12 @@ use Rattle.compose.proofs.quotients.low_carry.Goals as goal
 
 pub bit_gate-z-requires : goal.bit_gate-z-requires
 bit_gate-z-requires c =
-    record { left = omega arith; right = omega arith; items = items_in (omega arith) c.items_at-t.ensures c.requires.items; room = omega (arith, c.requires.room) }
+    record {
+      left = omega arith;
+      right = omega arith;
+      items = items_in (omega arith) c.items_at-t.ensures c.requires.items;
+      room = omega (arith, c.requires.room);
+    }
 
 pub returns : goal.returns
 returns c =
@@ -16,5 +21,9 @@ returns c =
       is = carries_of c.bit-b0.ensures.is c.bit-b1.ensures.is c.bit-b2.ensures.is
           c.bit-b0.ensures.below c.bit-b1.ensures.below c.bit-b2.ensures.below
           c.items_at-t.ensures c.bit_gate-z.ensures.is c.bit_gate-z.ensures.below c.bit_gate-z.ensures.sent refl;
-      below = record { zero = c.bit_gate-z.ensures.below.zero; one = c.bit_gate-z.ensures.below.one; two = xor_lt 1 _ _ c.bit-b2.ensures.below c.bit_gate-z.ensures.below.two };
+      below = record {
+        zero = c.bit_gate-z.ensures.below.zero;
+        one = c.bit_gate-z.ensures.below.one;
+        two = xor_lt 1 _ _ c.bit-b2.ensures.below c.bit_gate-z.ensures.below.two;
+      };
     }

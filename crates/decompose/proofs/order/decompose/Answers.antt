@@ -16,7 +16,12 @@ pub carry_stage-carries-requires : goal.carry_stage-carries-requires
 carry_stage-carries-requires c =
     let small : c.args.l < 60 = omega (arith, width_le c.args.r) in
     let less : c.args.l + 1 ≤ 3 * c.args.l + 1 = omega arith in
-    record { count = omega (arith, small); masks = long_less less c.requires.masks; channels = long_less less c.requires.channels; items = below_less less c.requires.items }
+    record {
+      count = omega (arith, small);
+      masks = long_less less c.requires.masks;
+      channels = long_less less c.requires.channels;
+      items = below_less less c.requires.items;
+    }
 
 pub from_carries-requires : goal.from_carries-requires
 from_carries-requires c =
@@ -25,7 +30,12 @@ from_carries-requires c =
     let less : l + 1 + (l + l) ≤ 3 * l + 1 = omega arith in
     let same : AsLong _ _ _ c.carry_stage-carries.new.c0 c.carry_stage-carries.new.c1 c.carry_stage-carries.new.c2
     = record { zero = c.c0-1.given; one = c.c1-1.given; two = c.c2-1.given } in
-    let channels = long_same same c.requires.channels in record { count = (c.requires.count.0, omega (arith, small)); masks = long_on (l + l) (l + 1) (long_less less c.requires.masks); channels = long_on (l + l) (l + 1) (long_less less channels); items = below_on 2 (l + l) (l + 1) (below_less less c.requires.items) }
+    let channels = long_same same c.requires.channels in record {
+      count = (c.requires.count.0, omega (arith, small));
+      masks = long_on (l + l) (l + 1) (long_less less c.requires.masks);
+      channels = long_on (l + l) (l + 1) (long_less less channels);
+      items = below_on 2 (l + l) (l + 1) (below_less less c.requires.items);
+    }
 
 pub returns : goal.returns
 returns c =

@@ -11,7 +11,12 @@ use Rattle.decompose.proofs.order.from_carries.Goals as goal
 pub running_stage-running-requires : goal.running_stage-running-requires
 running_stage-running-requires c =
     let less : c.args.l ≤ c.args.l + c.args.l = omega arith in
-    record { count = c.requires.count.1; masks = long_less less c.requires.masks; channels = long_less less c.requires.channels; items = below_less less c.requires.items }
+    record {
+      count = c.requires.count.1;
+      masks = long_less less c.requires.masks;
+      channels = long_less less c.requires.channels;
+      items = below_less less c.requires.items;
+    }
 
 pub increment-requires : goal.increment-requires
 increment-requires c =
@@ -19,7 +24,12 @@ increment-requires c =
     let same : AsLong _ _ _ c.running_stage-running.new.c0 c.running_stage-running.new.c1 c.running_stage-running.new.c2
     = record { zero = c.c0-1.given; one = c.c1-1.given; two = c.c2-1.given } in
     let channels = long_same same c.requires.channels in
-    record { count = c.requires.count; masks = long_on l l c.requires.masks; channels = long_on l l channels; items = below_on 2 l l c.requires.items }
+    record {
+      count = c.requires.count;
+      masks = long_on l l c.requires.masks;
+      channels = long_on l l channels;
+      items = below_on 2 l l c.requires.items;
+    }
 
 pub returns : goal.returns
 returns c =

@@ -9,7 +9,10 @@ use Rattle.decompose.proofs.order.increment.Goals as goal
 
 pub zero_turn-first-requires : goal.zero_turn-first-requires
 zero_turn-first-requires c =
-    record { items = items_in c.requires.count.0 c.items_at-t.ensures c.requires.items; room = long_less c.requires.count.0 c.requires.channels }
+    record {
+      items = items_in c.requires.count.0 c.items_at-t.ensures c.requires.items;
+      room = long_less c.requires.count.0 c.requires.channels;
+    }
 
 pub raising_stage-raising-requires : goal.raising_stage-raising-requires
 raising_stage-raising-requires c =
@@ -17,14 +20,21 @@ raising_stage-raising-requires c =
     let less : 1 + (l - 1) ≤ l = omega (arith, c.requires.count) in
     let same : AsLong _ _ _ c.zero_turn-first.new.c0 c.zero_turn-first.new.c1 c.zero_turn-first.new.c2
     = record { zero = c.c0-1.given; one = c.c1-1.given; two = c.c2-1.given } in
-    let channels = long_same same c.requires.channels in record { count = omega (arith, c.requires.count); first = c.zero_turn-first.ensures.below; masks = long_on (l - 1) 1 (long_less less c.requires.masks); channels = long_on (l - 1) 1 (long_less less channels); items = below_on 2 (l - 1) 1 (below_less less c.requires.items) }
+    let channels = long_same same c.requires.channels in record {
+      count = omega (arith, c.requires.count);
+      first = c.zero_turn-first.ensures.below;
+      masks = long_on (l - 1) 1 (long_less less c.requires.masks);
+      channels = long_on (l - 1) 1 (long_less less channels);
+      items = below_on 2 (l - 1) 1 (below_less less c.requires.items);
+    }
 
 pub returns : goal.returns
 returns c =
     let room = long_less c.requires.count.0 c.requires.channels in record {
       ended = λ x carries running e.
           ended_here c.args.l
-          (ran-three refl (turn-ran c.items_at-t.ensures room (c.zero_turn-first.ensures.turned x carries running e)) (c.raising_stage-raising.ensures x carries running e))
+          (ran-three refl (turn-ran c.items_at-t.ensures room (c.zero_turn-first.ensures.turned x carries running e))
+          (c.raising_stage-raising.ensures x carries running e))
           c.finish.ensures.is e;
       below = c.finish.ensures.below;
     }

@@ -1,17 +1,14 @@
 -- Invariant: j carry gates ran, and the carries have j + 1 bits.
-use Prim.Native.Nat.{◌+◌, ◌-◌, ◌≤◌}
+use Prim.Native.Nat.{◌+◌, ◌≤◌}
 use mathlib.Core.Path.{ap, sym, ◌≡◌, refl, ◌∙◌}
 use native.Mathlib.Omega.{arith}
-use Rattle.gate.specs.Places.{three}
 use Rattle.gate.specs.declared.sharing.Sharing.{Sharing}
-use Rattle.circuit.specs.Circuits.{upto}
 use Rattle.circuit.specs.Decompose.{carry_gate}
-use Rattle.circuit.specs.Lent.{Ran}
 use Rattle.circuit.specs.Sharings.{zeros}
 use Rattle.circuit.proofs.LentLaw.{long_less}
 use Rattle.circuit.proofs.TurnLaw.{items_in, no_gates, one_more}
 use Rattle.decompose.specs.Words.{digits_of}
-use Rattle.decompose.proofs.StageLaw.{Kept, room_next}
+use Rattle.decompose.proofs.StageLaw.{room_next}
 use Rattle.decompose.proofs.stages.carry_stage.Goals as goal
 
 pub loop-j-init : goal.loop-j-init
@@ -29,7 +26,12 @@ pub carry_turn-carries-requires : goal.carry_turn-carries-requires
 carry_turn-carries-requires c =
     let head = c.loop-j in
     let below = c.loop-j-test.true in
-    record { bit = omega (arith, c.requires.count); words = head.invariant.0.words; items = items_in below c.items_at-t.ensures c.requires.items; room = room_next head.invariant.0 c.requires.channels (omega arith) }
+    record {
+      bit = omega (arith, c.requires.count);
+      words = head.invariant.0.words;
+      items = items_in below c.items_at-t.ensures c.requires.items;
+      room = room_next head.invariant.0 c.requires.channels (omega arith);
+    }
 
 pub loop-j-preserved : goal.loop-j-preserved
 loop-j-preserved c =

@@ -1,16 +1,11 @@
-use Prim.Native.Nat.{◌+◌, ◌-◌, ◌≤◌}
-use mathlib.Core.Path.{ap, sym, ◌≡◌, refl, ◌∙◌}
-use native.Mathlib.Omega.{arith}
+use Prim.Native.Nat.{◌+◌, ◌-◌}
 use Rattle.gate.specs.Places.{three}
-use Rattle.gate.specs.declared.sharing.Sharing.{Sharing}
 use Rattle.circuit.specs.Circuits.{upto}
 use Rattle.circuit.specs.Decompose.{carry_gate}
 use Rattle.circuit.specs.Lent.{Ran}
 use Rattle.circuit.specs.Sharings.{zeros}
-use Rattle.circuit.proofs.LentLaw.{long_less}
-use Rattle.circuit.proofs.TurnLaw.{items_in, no_gates, one_more}
 use Rattle.decompose.specs.Words.{digits_of}
-use Rattle.decompose.proofs.StageLaw.{Kept, room_next}
+use Rattle.decompose.proofs.StageLaw.{Kept}
 use Rattle.decompose.proofs.stages.carry_stage.Given as goal
 
 abbrev pub invariant-loop-j : goal.invariant-loop-j

@@ -1,16 +1,11 @@
 -- Invariant: j half adders ran, whatever words the total is made of, and the carries have j + 1 bits, the last of which are at hand.
-use Prim.Native.Nat.{◌+◌, ◌-◌, ◌<◌, ◌≤◌}
+use Prim.Native.Nat.{◌+◌, ◌<◌, ◌≤◌}
 use mathlib.Core.Path.{◌≡◌, refl, ◌∙◌}
 use native.Mathlib.Omega.{arith}
-use Rattle.gate.specs.Places.{three}
-use Rattle.gate.specs.declared.sharing.Sharing.{Sharing}
-use Rattle.circuit.specs.Circuits.{upto}
 use Rattle.circuit.specs.Decompose.{raising_gate}
-use Rattle.circuit.specs.Lent.{Ran}
 use Rattle.circuit.proofs.LentLaw.{long_less}
 use Rattle.circuit.proofs.TurnLaw.{items_in, no_gates, one_more}
-use Rattle.decompose.specs.Words.{digits_of, totalled}
-use Rattle.decompose.proofs.StageLaw.{Kept, Last, first-last, room_next, stored_last}
+use Rattle.decompose.proofs.StageLaw.{first-last, room_next, stored_last}
 use Rattle.decompose.proofs.stages.raising_stage.Goals as goal
 
 pub loop-j-init : goal.loop-j-init
@@ -29,7 +24,12 @@ pub raising_turn-last-requires : goal.raising_turn-last-requires
 raising_turn-last-requires c =
     let head = c.loop-j in
     let below = c.loop-j-test.true in
-    record { bit = omega (arith, c.requires.count); last = head.invariant.1.bits; items = items_in below c.items_at-t.ensures c.requires.items; room = room_next head.invariant.0 c.requires.channels (omega arith) }
+    record {
+      bit = omega (arith, c.requires.count);
+      last = head.invariant.1.bits;
+      items = items_in below c.items_at-t.ensures c.requires.items;
+      room = room_next head.invariant.0 c.requires.channels (omega arith);
+    }
 
 pub store-raising-requires : goal.store-raising-requires
 store-raising-requires c =
@@ -53,7 +53,8 @@ loop-j-preserved c =
       },
       stored_last _ kept.words c.raising_turn-last.ensures.below c.store-raising.ensures.is,
       λ x carries running e. one_more raising_gate head.j c.items_at-t.ensures (head.invariant.2 x carries running e) room
-          (c.raising_turn-last.ensures.turned x carries running head.raising c.store-raising.result e head.invariant.1.is c.store-raising.ensures.is),
+          (c.raising_turn-last.ensures.turned x carries running head.raising c.store-raising.result e head.invariant.1.is
+          c.store-raising.ensures.is),
     )
 
 pub returns : goal.returns

@@ -1,17 +1,14 @@
 -- Invariant: j running gates ran, and the running carries have j + 2 bits, the last of which are at hand.
-use Prim.Native.Nat.{◌+◌, ◌-◌, ◌<◌, ◌≤◌}
+use Prim.Native.Nat.{◌+◌, ◌<◌, ◌≤◌}
 use mathlib.Core.Path.{ap, sym, ◌≡◌, refl, ◌∙◌}
 use native.Mathlib.Omega.{arith}
-use Rattle.gate.specs.Places.{three}
 use Rattle.gate.specs.declared.sharing.Sharing.{Sharing}
-use Rattle.circuit.specs.Circuits.{upto}
 use Rattle.circuit.specs.Decompose.{running_gate}
-use Rattle.circuit.specs.Lent.{Ran}
 use Rattle.circuit.specs.Sharings.{zeros}
 use Rattle.circuit.proofs.LentLaw.{long_less}
 use Rattle.circuit.proofs.TurnLaw.{items_in, no_gates, one_more}
 use Rattle.decompose.specs.Words.{digits_of}
-use Rattle.decompose.proofs.StageLaw.{Kept, Last, room_next, stored_last, zeros-last}
+use Rattle.decompose.proofs.StageLaw.{room_next, stored_last, zeros-last}
 use Rattle.decompose.proofs.stages.running_stage.Goals as goal
 
 pub loop-j-init : goal.loop-j-init
@@ -30,7 +27,12 @@ pub running_turn-last-requires : goal.running_turn-last-requires
 running_turn-last-requires c =
     let head = c.loop-j in
     let below = c.loop-j-test.true in
-    record { bit = omega (arith, c.requires.count); last = head.invariant.1.bits; items = items_in below c.items_at-t.ensures c.requires.items; room = room_next head.invariant.0 c.requires.channels (omega arith) }
+    record {
+      bit = omega (arith, c.requires.count);
+      last = head.invariant.1.bits;
+      items = items_in below c.items_at-t.ensures c.requires.items;
+      room = room_next head.invariant.0 c.requires.channels (omega arith);
+    }
 
 pub store-running-requires : goal.store-running-requires
 store-running-requires c =
@@ -53,7 +55,8 @@ loop-j-preserved c =
         words = c.store-running.ensures.below;
       },
       stored_last _ kept.words c.running_turn-last.ensures.below c.store-running.ensures.is,
-      one_more (λ k. running_gate (k + 1)) head.j c.items_at-t.ensures head.invariant.2 room (c.running_turn-last.ensures.turned head.running c.store-running.result head.invariant.1.is c.store-running.ensures.is),
+      one_more (λ k. running_gate (k + 1)) head.j c.items_at-t.ensures head.invariant.2 room
+          (c.running_turn-last.ensures.turned head.running c.store-running.result head.invariant.1.is c.store-running.ensures.is),
     )
 
 pub returns : goal.returns

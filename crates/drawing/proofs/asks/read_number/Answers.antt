@@ -1,8 +1,5 @@
 -- Invariant: the rest of the text, read on, gives the whole answer.
-use Prim.Native.Nat.{◌-◌}
-use mathlib.Core.Path.{◌≡◌, ap, ◌∙◌}
-use lib.ListN.{drop, length}
-use Rattle.line.specs.Readings.{read, read_on}
+use mathlib.Core.Path.{ap, ◌∙◌}
 use Rattle.drawing.specs.Asks.{number_in}
 use Rattle.drawing.proofs.AskLaw.{number_read, read_more, read_over}
 use Rattle.drawing.proofs.asks.read_number.Goals as goal

@@ -1,9 +1,7 @@
 use Prim.Native.Nat.{◌-◌}
-use mathlib.Core.Path.{◌≡◌, ap, ◌∙◌}
+use mathlib.Core.Path.{◌≡◌}
 use lib.ListN.{drop, length}
 use Rattle.line.specs.Readings.{read, read_on}
-use Rattle.drawing.specs.Asks.{number_in}
-use Rattle.drawing.proofs.AskLaw.{number_read, read_more, read_over}
 use Rattle.drawing.proofs.asks.read_number.Given as goal
 
 abbrev pub invariant-loop-i : goal.invariant-loop-i

@@ -1,10 +1,9 @@
 -- Invariant: the lines so far are written.
-use Prim.Native.Nat.{◌-◌}
 use mathlib.Core.Path.{◌≡◌, refl}
 use native.Mathlib.Omega.{arith}
 use borrow.Author.Rules.{rules}
 use Rattle.drawing.specs.Lines.{lines_of}
-use Rattle.drawing.proofs.LinesLaw.{Lined, more_items, one_line}
+use Rattle.drawing.proofs.LinesLaw.{more_items, one_line}
 use Rattle.drawing.proofs.lines.put_lines.Goals as goal
 
 pub loop-k-init : goal.loop-k-init
@@ -14,7 +13,10 @@ loop-k-init c = record { few = omega arith; long = refl; short = omega arith; wr
 pub put_line-at-requires : goal.put_line-at-requires
 put_line-at-requires c =
     let turn = c.loop-k in
-    record { items = more_items _ _ _ c.loop-k-test.true c.requires.items; room = omega (arith, turn.invariant.short, turn.invariant.long, c.requires.room) }
+    record {
+      items = more_items _ _ _ c.loop-k-test.true c.requires.items;
+      room = omega (arith, turn.invariant.short, turn.invariant.long, c.requires.room);
+    }
 
 pub loop-k-preserved : goal.loop-k-preserved
 loop-k-preserved c =

@@ -1,9 +1,5 @@
 use Prim.Native.Nat.{◌-◌}
-use mathlib.Core.Path.{◌≡◌, refl}
-use native.Mathlib.Omega.{arith}
-use borrow.Author.Rules.{rules}
-use Rattle.drawing.specs.Lines.{lines_of}
-use Rattle.drawing.proofs.LinesLaw.{Lined, more_items, one_line}
+use Rattle.drawing.proofs.LinesLaw.{Lined}
 use Rattle.drawing.proofs.lines.put_lines.Given as goal
 
 abbrev pub invariant-loop-k : goal.invariant-loop-k

@@ -1,10 +1,10 @@
 -- Invariant: the words of the bytes so far stand in the run.
-use Prim.Native.Nat.{◌-◌, ◌/◌}
+use Prim.Native.Nat.{◌/◌}
 use mathlib.Core.Path.{◌≡◌, refl, ◌∙◌}
 use native.Mathlib.Omega.{arith}
 use lib.ListN.{length}
 use Rattle.drawing.specs.Raws.{raw_words}
-use Rattle.drawing.proofs.RawLaw.{Worded, one_word}
+use Rattle.drawing.proofs.RawLaw.{one_word}
 use Rattle.drawing.proofs.raws.raw_words.Goals as goal
 
 pub loop-i-init : goal.loop-i-init

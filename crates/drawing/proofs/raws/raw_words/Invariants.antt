@@ -1,9 +1,5 @@
-use Prim.Native.Nat.{◌-◌, ◌/◌}
-use mathlib.Core.Path.{◌≡◌, refl, ◌∙◌}
-use native.Mathlib.Omega.{arith}
-use lib.ListN.{length}
-use Rattle.drawing.specs.Raws.{raw_words}
-use Rattle.drawing.proofs.RawLaw.{Worded, one_word}
+use Prim.Native.Nat.{◌-◌}
+use Rattle.drawing.proofs.RawLaw.{Worded}
 use Rattle.drawing.proofs.raws.raw_words.Given as goal
 
 abbrev pub invariant-loop-i : goal.invariant-loop-i

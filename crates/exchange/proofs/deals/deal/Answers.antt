@@ -15,7 +15,11 @@ fine c = sym c.deal_why-a.ensures ∙ ap refusal_of c.in-Done.is
 pub dealt_register-requires : goal.dealt_register-requires
 dealt_register-requires c =
     let a = c.args in
-    let whole = deal_in a.sound a.at a.d a.e a.v (length a.dealer.now) c.item-r0.result c.item-r1.result (fine c) in record { number = whole.0; first = whole.1.0; second = whole.1.1 }
+    let whole = deal_in a.sound a.at a.d a.e a.v (length a.dealer.now) c.item-r0.result c.item-r1.result (fine c) in record {
+      number = whole.0;
+      first = whole.1.0;
+      second = whole.1.1;
+    }
 
 pub returns-in-Refused : goal.returns-in-Refused
 returns-in-Refused c = λ m of M channels.
@@ -26,7 +30,8 @@ returns-in-Refused c = λ m of M channels.
 pub returns-in-Done : goal.returns-in-Done
 returns-in-Done c =
     let fine : let a = c.args in
-    first_met (deal_checks a.sound a.at a.d a.e a.v (length a.dealer.now) c.item-r0.result c.item-r1.result) ≡ 0 = sym c.deal_why-a.ensures ∙ ap refusal_of c.in-Done.is in
+    first_met (deal_checks a.sound a.at a.d a.e a.v (length a.dealer.now) c.item-r0.result c.item-r1.result) ≡ 0 = sym
+    c.deal_why-a.ensures ∙ ap refusal_of c.in-Done.is in
     λ m of M channels.
     let a = c.args in
     deal_done m a.d a.e a.v a.dealer.now of c.item-r0.ensures c.item-r1.ensures M channels

@@ -22,9 +22,14 @@ value-value-requires c =
 pub open_words-requires : goal.open_words-requires
 open_words-requires c =
     let fine : let a = c.args in
-    first_met (open_checks a.sound a.x a.a a.at (three (length a.c0.now) (length a.c1.now) (length a.c2.now))) ≡ 0 = sym c.open_why-v.ensures ∙ ap refusal_of c.in-Done.is in
+    first_met (open_checks a.sound a.x a.a a.at (three (length a.c0.now) (length a.c1.now) (length a.c2.now))) ≡ 0 = sym
+    c.open_why-v.ensures ∙ ap refusal_of c.in-Done.is in
     let a = c.args in
-    let whole = open_room a.sound a.x a.a a.at (length a.c0.now) (length a.c1.now) (length a.c2.now) fine in record { zero = whole.0; one = whole.1.0; two = whole.1.1 }
+    let whole = open_room a.sound a.x a.a a.at (length a.c0.now) (length a.c1.now) (length a.c2.now) fine in record {
+      zero = whole.0;
+      one = whole.1.0;
+      two = whole.1.1;
+    }
 
 pub returns-in-Refused : goal.returns-in-Refused
 returns-in-Refused c = λ m of place T.
@@ -34,7 +39,8 @@ returns-in-Refused c = λ m of place T.
 pub returns-in-Done : goal.returns-in-Done
 returns-in-Done c =
     let fine : let a = c.args in
-    first_met (open_checks a.sound a.x a.a a.at (three (length a.c0.now) (length a.c1.now) (length a.c2.now))) ≡ 0 = sym c.open_why-v.ensures ∙ ap refusal_of c.in-Done.is in
+    first_met (open_checks a.sound a.x a.a a.at (three (length a.c0.now) (length a.c1.now) (length a.c2.now))) ≡ 0 = sym
+    c.open_why-v.ensures ∙ ap refusal_of c.in-Done.is in
     λ m of place T.
     let a = c.args in
     open_done m a.x T (three a.c0.now a.c1.now a.c2.now) of place {d = three c.open_words.new.c0 c.open_words.new.c1 c.open_words.new.c2}

@@ -9,11 +9,18 @@ use Rattle.gate.proofs.words.masked.Goals as goal
 pub reduce_short-requires : goal.reduce_short-requires
 reduce_short-requires c =
     let known = c.requires.sized in
-    record { modulus = known.is; width = omega (arith, known); room = few_above (c.args.products + c.mask_word-d.result) known (omega arith) }
+    record {
+      modulus = known.is;
+      width = omega (arith, known);
+      room = few_above (c.args.products + c.mask_word-d.result) known (omega arith);
+    }
 
 pub returns : goal.returns
 returns c =
-    record { is = c.reduce_short.ensures.is ∙ (cong_add (cong_refl c.args.products) c.mask_word-d.ensures.is).same; below = c.reduce_short.ensures.below }
+    record {
+      is = c.reduce_short.ensures.is ∙ (cong_add (cong_refl c.args.products) c.mask_word-d.ensures.is).same;
+      below = c.reduce_short.ensures.below;
+    }
 
 pub mask_word-d-requires : goal.mask_word-d-requires
 mask_word-d-requires c =

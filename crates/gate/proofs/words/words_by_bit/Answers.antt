@@ -34,4 +34,7 @@ masked-s1-requires c =
 
 pub returns : goal.returns
 returns c =
-    let whole = words_by_bit _ _ _ _ (c.mask_alone-s0.ensures.is, c.mask_alone-s0.ensures.below) (c.masked-s1.ensures.is, c.masked-s1.ensures.below) (c.masked-s2.ensures.is, c.masked-s2.ensures.below) in record { is = whole.0; below = whole.1 }
+    let whole = words_by_bit _ _ _ _ (c.mask_alone-s0.ensures.is, c.mask_alone-s0.ensures.below) (c.masked-s1.ensures.is, c.masked-s1.ensures.below) (c.masked-s2.ensures.is, c.masked-s2.ensures.below) in record {
+      is = whole.0;
+      below = whole.1;
+    }

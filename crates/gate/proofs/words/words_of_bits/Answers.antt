@@ -14,4 +14,7 @@ masked-requires c =
 
 pub returns : goal.returns
 returns c =
-    let whole = words_of_bits _ _ _ _ (c.masked.ensures.is, c.masked.ensures.below) (c.mask_alone.ensures.is, c.mask_alone.ensures.below) (c.mask_alone-2.ensures.is, c.mask_alone-2.ensures.below) in record { is = whole.0; below = whole.1 }
+    let whole = words_of_bits _ _ _ _ (c.masked.ensures.is, c.masked.ensures.below) (c.mask_alone.ensures.is, c.mask_alone.ensures.below) (c.mask_alone-2.ensures.is, c.mask_alone-2.ensures.below) in record {
+      is = whole.0;
+      below = whole.1;
+    }

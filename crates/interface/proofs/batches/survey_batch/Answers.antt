@@ -13,7 +13,10 @@ returns-then-answer-ne3 c =
     let masks : Place → List ℕ = three a.m0.now a.m1.now a.m2.now in
     let channels : Place → List ℕ = three a.c0.now a.c1.now a.c2.now in
     let results : Place → List ℕ = three a.z0.now a.z1.now a.z2.now in
-    record { is = batch-refused a.width a.bits shares masks channels results a.answer.now c.if-answer-ne3.true; lent = (refl, refl, refl, refl, refl, refl) }
+    record {
+      is = batch-refused a.width a.bits shares masks channels results a.answer.now c.if-answer-ne3.true;
+      lent = (refl, refl, refl, refl, refl, refl);
+    }
 
 pub write_answer-requires : goal.write_answer-requires
 write_answer-requires c = c.if-answer-ne3.false

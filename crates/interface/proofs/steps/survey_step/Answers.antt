@@ -1,13 +1,11 @@
 -- Each way out of a call is what the definition leaves.
 use Prim.Native.Nat.{ℕ}
 use mathlib.Core.List.{List}
-use mathlib.Core.Path.{◌≡◌, refl, sym, ◌∙◌}
+use mathlib.Core.Path.{refl, sym, ◌∙◌}
 use Rattle.gate.specs.Places.{Place, three}
 use Rattle.machine.specs.Checks.{Tapes}
-use Rattle.machine.specs.Registers.{sound}
 use Rattle.machine.specs.Step.{step}
-use Rattle.machine.specs.declared.registers.Machine.{Machine}
-use Rattle.layout.specs.Layout.{Says, machine_of}
+use Rattle.layout.specs.Layout.{machine_of}
 use Rattle.layout.proofs.SaysLaw.{said}
 use Rattle.interface.proofs.CallLaw.{answer-length, order_unread, record_unread, seen-found, seen_none, step_left, step-read}
 use Rattle.interface.proofs.steps.survey_step.Goals as goal

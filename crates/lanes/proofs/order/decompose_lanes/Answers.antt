@@ -11,11 +11,27 @@ load-requires c =
 
 pub work-requires : goal.work-requires
 work-requires c =
-    record { count = (c.requires.count.0, omega (arith, c.requires.count.1, width_le c.args.r), omega (arith, c.requires.count.1, c.width-e.ensures), omega (arith, width_le c.args.r, c.width-e.ensures)); masks = c.requires.masks; channels = c.requires.channels; planes = c.x-2-1.given; width = rw c.width-e.ensures c.load.ensures.none }
+    record {
+      count = (
+        c.requires.count.0,
+        omega (arith, c.requires.count.1, width_le c.args.r),
+        omega
+            (arith, c.requires.count.1, c.width-e.ensures),
+        omega (arith, width_le c.args.r, c.width-e.ensures),
+      );
+      masks = c.requires.masks;
+      channels = c.requires.channels;
+      planes = c.x-2-1.given;
+      width = rw c.width-e.ensures c.load.ensures.none;
+    }
 
 pub unload-requires : goal.unload-requires
 unload-requires c =
-    record { planes = c.x-4-1.given; lengths = c.requires.results; width = none_wider c.args.l (width_of c.args.r) _ (omega (arith, c.requires.count.1)) c.work.ensures.none }
+    record {
+      planes = c.x-4-1.given;
+      lengths = c.requires.results;
+      width = none_wider c.args.l (width_of c.args.r) _ (omega (arith, c.requires.count.1)) c.work.ensures.none;
+    }
 
 pub returns : goal.returns
 returns c =

@@ -1,4 +1,3 @@
-use native.Mathlib.Omega.{arith}
 use Rattle.lanes.proofs.OrderLaw.{sums_ran}
 use Rattle.lanes.proofs.order.sums.Goals as goal
 

@@ -1,17 +1,15 @@
 -- Invariant: j gates ran for each figure, and j + 1 planes of carries are known.
-use Prim.Native.Nat.{ℕ, ◌+◌, ◌-◌, ◌<◌, ◌≤◌}
+use Prim.Native.Nat.{ℕ, ◌+◌, ◌≤◌}
 use mathlib.Core.List.{List}
 use mathlib.Core.Path.{◌≡◌, ap, refl, sym, ◌∙◌}
 use native.Mathlib.Omega.{arith}
-use Rattle.gate.specs.Places.{three}
 use Rattle.gate.specs.declared.sharing.Sharing.{Sharing}
 use Rattle.circuit.specs.Decompose.{carry_gate}
 use Rattle.circuit.specs.Sharings.{zeros}
 use Rattle.circuit.proofs.LentLaw.{long_less}
 use Rattle.decompose.specs.Words.{digits_of}
 use Rattle.planes.specs.Planes.{columns, with_planes}
-use Rattle.lanes.specs.Stages.{Went, carried, fresh}
-use Rattle.lanes.proofs.GateLaw.{Going, going_on, went_more, went_none}
+use Rattle.lanes.proofs.GateLaw.{going_on, went_more, went_none}
 use Rattle.lanes.proofs.StageLaw.{no_planes, takes_carry}
 use Rattle.lanes.proofs.stages.carry_lanes.Goals as goal
 

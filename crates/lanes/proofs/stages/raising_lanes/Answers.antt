@@ -1,15 +1,11 @@
 -- Invariant: j gates ran for each figure, and j planes of the result are there.
-use Prim.Native.Nat.{ℕ, ◌+◌, ◌-◌, ◌<◌, ◌≤◌}
-use mathlib.Core.List.{List}
+use Prim.Native.Nat.{◌+◌, ◌≤◌}
 use mathlib.Core.Path.{◌≡◌, ap, refl, ◌∙◌}
 use native.Mathlib.Omega.{arith}
-use lib.ListN.{length}
-use Rattle.gate.specs.Places.{three}
 use Rattle.circuit.proofs.LentLaw.{long_less}
-use Rattle.planes.specs.Planes.{NoPlanes, planes_at, with_planes}
-use Rattle.lanes.specs.Stages.{Totals}
-use Rattle.lanes.proofs.GateLaw.{Going, going_on}
-use Rattle.lanes.proofs.StageLaw.{Rising, none_kept, rising_all, rising_more, rising_none}
+use Rattle.planes.specs.Planes.{with_planes}
+use Rattle.lanes.proofs.GateLaw.{going_on}
+use Rattle.lanes.proofs.StageLaw.{none_kept, rising_all, rising_more, rising_none}
 use Rattle.lanes.proofs.stages.raising_lanes.Goals as goal
 
 pub loop-j-init : goal.loop-j-init
@@ -46,7 +42,8 @@ loop-j-preserved c =
           inv.0.planes totals c.planes_at-b.ensures c.items_at-t.ensures (long_less at_more inv.0.room) c.gate_words-z.ensures
           c.send_at.ensures
           (c.store_planes.ensures.is ∙ ap (with_planes head.o head.j) c.words_xor.ensures)),
-      (λ e far none. none_kept head.o c.words_xor.result (omega (arith, c.loop-j-test.true, far)) (omega (arith, c.loop-j-test.true, inv.0.few)) inv.0.planes
+      (λ e far none. none_kept head.o c.words_xor.result (omega (arith, c.loop-j-test.true, far))
+          (omega (arith, c.loop-j-test.true, inv.0.few)) inv.0.planes
           c.store_planes.ensures.is (inv.2 e far none)),
     )
 

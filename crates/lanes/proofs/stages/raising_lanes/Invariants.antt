@@ -1,14 +1,12 @@
-use Prim.Native.Nat.{ℕ, ◌+◌, ◌-◌, ◌<◌, ◌≤◌}
+use Prim.Native.Nat.{ℕ, ◌+◌, ◌-◌, ◌<◌}
 use mathlib.Core.List.{List}
-use mathlib.Core.Path.{◌≡◌, ap, refl, ◌∙◌}
-use native.Mathlib.Omega.{arith}
+use mathlib.Core.Path.{◌≡◌}
 use lib.ListN.{length}
 use Rattle.gate.specs.Places.{three}
-use Rattle.circuit.proofs.LentLaw.{long_less}
-use Rattle.planes.specs.Planes.{NoPlanes, planes_at, with_planes}
+use Rattle.planes.specs.Planes.{NoPlanes, planes_at}
 use Rattle.lanes.specs.Stages.{Totals}
-use Rattle.lanes.proofs.GateLaw.{Going, going_on}
-use Rattle.lanes.proofs.StageLaw.{Rising, none_kept, rising_all, rising_more, rising_none}
+use Rattle.lanes.proofs.GateLaw.{Going}
+use Rattle.lanes.proofs.StageLaw.{Rising}
 use Rattle.lanes.proofs.stages.raising_lanes.Given as goal
 
 abbrev pub invariant-loop-j : goal.invariant-loop-j

@@ -1,14 +1,12 @@
 -- Invariant: i gates ran for each figure, planes 0 to i are the total's, and carries stand from there on.
-use Prim.Native.Nat.{ℕ, ◌+◌, ◌-◌, ◌<◌, ◌≤◌}
-use mathlib.Core.List.{List}
+use Prim.Native.Nat.{◌+◌, ◌≤◌}
 use mathlib.Core.Path.{◌≡◌, ap, refl, ◌∙◌}
 use native.Mathlib.Omega.{arith}
-use Rattle.gate.specs.Places.{three}
 use Rattle.gate.specs.declared.sharing.Sharing.{Sharing}
 use Rattle.circuit.proofs.LentLaw.{long_less}
 use Rattle.planes.specs.Planes.{planes_at, with_planes, words_xor}
-use Rattle.lanes.proofs.GateLaw.{Going, going_on}
-use Rattle.lanes.proofs.StageLaw.{Begun, Summing, summing_all, summing_more, summing_none}
+use Rattle.lanes.proofs.GateLaw.{going_on}
+use Rattle.lanes.proofs.StageLaw.{Begun, summing_all, summing_more, summing_none}
 use Rattle.lanes.proofs.stages.running_lanes.Goals as goal
 
 pub loop-i-init : goal.loop-i-init
@@ -51,7 +49,8 @@ loop-i-preserved c =
       (λ q begun. summing_more a.at head.i a.n a.x.now q head.s c.total_in-in-loop-i.new.s head.last c.words_xor-last.result
           c.planes_at-b.result c.planes_at-u.result c.items_at-t.result c.majority_words-z.result (inv.1 q begun) (c.loop-i-test.true)
           inv.0.few inv.0.planes c.planes_at-b.ensures c.planes_at-u.ensures c.items_at-t.ensures
-          (long_less at_more inv.0.room) c.majority_words-z.ensures c.send_at.ensures c.total_in-in-loop-i.ensures.is c.words_xor-last.ensures),
+          (long_less at_more inv.0.room) c.majority_words-z.ensures c.send_at.ensures c.total_in-in-loop-i.ensures.is
+          c.words_xor-last.ensures),
     )
 
 pub returns : goal.returns

@@ -1,4 +1,3 @@
-use native.Mathlib.Omega.{arith}
 use Rattle.lanes.proofs.StageLaw.{zeroed}
 use Rattle.lanes.proofs.stages.zero_lanes.Goals as goal
 

@@ -1,11 +1,9 @@
 -- Invariant: planes from n up to j are 0, and those from e on.
-use Prim.Native.Nat.{◌-◌, ◌<◌, ◌≤◌}
-use mathlib.Core.Path.{◌≡◌, refl, ◌∙◌}
+use Prim.Native.Nat.{◌<◌}
+use mathlib.Core.Path.{refl, ◌∙◌}
 use native.Mathlib.Omega.{arith}
-use lib.ListN.{length}
-use Rattle.planes.specs.Planes.{NoPlanes}
 use Rattle.lanes.proofs.OrderLaw.{cleared}
-use Rattle.lanes.proofs.StageLaw.{ClearedTo, cleared_more, none_kept}
+use Rattle.lanes.proofs.StageLaw.{cleared_more, none_kept}
 use Rattle.lanes.proofs.words.clear_planes.Goals as goal
 
 pub loop-j-init : goal.loop-j-init

@@ -1,10 +1,8 @@
-use Prim.Native.Nat.{◌-◌, ◌<◌, ◌≤◌}
-use mathlib.Core.Path.{◌≡◌, refl, ◌∙◌}
-use native.Mathlib.Omega.{arith}
+use Prim.Native.Nat.{◌-◌, ◌≤◌}
+use mathlib.Core.Path.{◌≡◌}
 use lib.ListN.{length}
 use Rattle.planes.specs.Planes.{NoPlanes}
-use Rattle.lanes.proofs.OrderLaw.{cleared}
-use Rattle.lanes.proofs.StageLaw.{ClearedTo, cleared_more, none_kept}
+use Rattle.lanes.proofs.StageLaw.{ClearedTo}
 use Rattle.lanes.proofs.words.clear_planes.Given as goal
 
 abbrev pub invariant-loop-j : goal.invariant-loop-j

@@ -1,5 +1,4 @@
 use mathlib.Core.Path.{ap, ap₂, ◌∙◌}
-use native.Mathlib.Omega.{arith}
 use Rattle.planes.specs.Planes.{with_planes, words_xor}
 use Rattle.lanes.proofs.words.total_in.Goals as goal
 

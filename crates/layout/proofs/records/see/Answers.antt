@@ -1,14 +1,11 @@
 -- Invariant: the registers passed, before what the words behind them say, are the whole record.
-use Prim.Native.Nat.{◌-◌, ◌≤◌}
 use mathlib.Core.Bool.{Bool, ◌&&◌, and-false, and-true, false, true}
-use mathlib.Core.Logic.{⊎_elim}
 use mathlib.Core.Path.{◌≡◌, ◌∙◌, ap, sym}
 use native.Mathlib.Omega.{arith}
-use borrow.Author.Tests.{not-false, not-true}
 use lib.ListN.{length-drop}
 use Rattle.circuit.proofs.LentLaw.{part_is}
 use Rattle.layout.specs.Layout.{seen_of}
-use Rattle.layout.proofs.ReadLaw.{Passed, all_passed, no_register, none_passed, one_passed, other_length, right_length}
+use Rattle.layout.proofs.ReadLaw.{all_passed, no_register, none_passed, one_passed, other_length, right_length}
 use Rattle.layout.proofs.records.see.Goals as goal
 use Rattle.layout.proofs.records.see.Goals.{then-not-is_sound, else-not-is_sound}
 

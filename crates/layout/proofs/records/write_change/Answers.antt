@@ -34,7 +34,8 @@ slice_bounds-write_register-start c = let seat = (fits-stored c).0 in let long =
 
 pub write_register-requires : goal.write_register-requires
 write_register-requires c =
-    let fits-stored : Fits c.requires.0 (Stored c.in-Stored.d c.in-Stored.register c.in-Stored.gates c.in-Stored.items) = fits_as c.requires.0 c.in-Stored.is c.requires.2 in
+    let fits-stored : Fits c.requires.0 (Stored c.in-Stored.d c.in-Stored.register c.in-Stored.gates c.in-Stored.items)
+    = fits_as c.requires.0 c.in-Stored.is c.requires.2 in
     let seat = fits-stored.0 in
     let long = says_length c.requires.1 in
     rw (part_is, length-drop) (omega arith)
@@ -42,15 +43,23 @@ write_register-requires c =
 pub rise-requires : goal.rise-requires
 unfolding with_register
 rise-requires c =
-    let fits-stored : Fits c.requires.0 (Stored c.in-Stored.d c.in-Stored.register c.in-Stored.gates c.in-Stored.items) = fits_as c.requires.0 c.in-Stored.is c.requires.2 in
+    let fits-stored : Fits c.requires.0 (Stored c.in-Stored.d c.in-Stored.register c.in-Stored.gates c.in-Stored.items)
+    = fits_as c.requires.0 c.in-Stored.is c.requires.2 in
     let stored : (m : Machine)
     → let ws = c.args.words.now in
-    Says ws m → c.in-Stored.d < 16 → Says (put_mid (5 * c.in-Stored.d) (length ws - 5 * c.in-Stored.d) ws c.write_register.new.words) (with_register m c.in-Stored.d c.in-Stored.register) = λ m says h. register_changed says _ _ h c.write_register.ensures in
+    Says ws m → c.in-Stored.d < 16 → Says (put_mid (5 * c.in-Stored.d) (length ws - 5 * c.in-Stored.d) ws
+    c.write_register.new.words) (with_register m c.in-Stored.d c.in-Stored.register) = λ m says h. register_changed says _ _ h
+    c.write_register.ensures in
     let fits = fits-stored in
     let seat = fits.0 in
     let few = fits.1 in
     let taken = fits.2 in
-    let whole = rises (stored c.requires.0 c.requires.1 seat.register) c.in-Stored.gates c.in-Stored.gates c.in-Stored.items (omega arith) (omega arith) (omega arith) in record { long = whole.0; masks = whole.1.0; channels = whole.1.1.0; dealer = whole.1.1.1 }
+    let whole = rises (stored c.requires.0 c.requires.1 seat.register) c.in-Stored.gates c.in-Stored.gates c.in-Stored.items (omega arith) (omega arith) (omega arith) in record {
+      long = whole.0;
+      masks = whole.1.0;
+      channels = whole.1.1.0;
+      dealer = whole.1.1.1;
+    }
 
 pub rise-requires-in-Opened : goal.rise-requires-in-Opened
 rise-requires-in-Opened c =
@@ -58,14 +67,21 @@ rise-requires-in-Opened c =
     let masks = fits.0 in
     let channels = fits.1 in
     let dealer = fits.2 in
-    let whole = rises c.requires.1 0 1 0 (omega arith) (omega arith) (omega arith) in record { long = whole.0; masks = whole.1.0; channels = whole.1.1.0; dealer = whole.1.1.1 }
+    let whole = rises c.requires.1 0 1 0 (omega arith) (omega arith) (omega arith) in record {
+      long = whole.0;
+      masks = whole.1.0;
+      channels = whole.1.1.0;
+      dealer = whole.1.1.1;
+    }
 
 pub returns-in-Stored : goal.returns-in-Stored
 unfolding with_register
 returns-in-Stored c =
     let stored : (m : Machine)
     → let ws = c.args.words.now in
-    Says ws m → c.in-Stored.d < 16 → Says (put_mid (5 * c.in-Stored.d) (length ws - 5 * c.in-Stored.d) ws c.write_register.new.words) (with_register m c.in-Stored.d c.in-Stored.register) = λ m says h. register_changed says _ _ h c.write_register.ensures in
+    Says ws m → c.in-Stored.d < 16 → Says (put_mid (5 * c.in-Stored.d) (length ws - 5 * c.in-Stored.d) ws
+    c.write_register.new.words) (with_register m c.in-Stored.d c.in-Stored.register) = λ m says h. register_changed says _ _ h
+    c.write_register.ensures in
     λ m says fits.
     let h = fits_as m c.in-Stored.is fits in
     rw c.in-Stored.is (c.rise.ensures _ (stored m says h.0.register))

@@ -1,9 +1,5 @@
 -- Invariant: the digits counted, the first being counted at the start, and those of what is left are all the digits.
-use Prim.Native.Nat.{◌+◌}
-use mathlib.Core.Path.{◌≡◌}
 use native.Mathlib.Omega.{arith}
-use lib.ListN.{length}
-use Rattle.line.specs.Printed.{decimal}
 use Rattle.line.proofs.DecimalLaw.{at-most_20, digit_more, one-digit}
 use Rattle.line.proofs.printing.digit_count.Goals as goal
 

@@ -1,9 +1,7 @@
 use Prim.Native.Nat.{◌+◌}
 use mathlib.Core.Path.{◌≡◌}
-use native.Mathlib.Omega.{arith}
 use lib.ListN.{length}
 use Rattle.line.specs.Printed.{decimal}
-use Rattle.line.proofs.DecimalLaw.{at-most_20, digit_more, one-digit}
 use Rattle.line.proofs.printing.digit_count.Given as goal
 
 abbrev pub invariant-loop-left : goal.invariant-loop-left

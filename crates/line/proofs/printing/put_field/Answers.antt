@@ -4,7 +4,7 @@ use mathlib.Core.Path.{refl, ap}
 use native.Mathlib.Omega.{arith}
 use lib.ListN.{length, length-set}
 use Rattle.line.proofs.DecimalLaw.{at-most_20}
-use Rattle.line.proofs.PrintLaw.{Filling, one-digit_put, put}
+use Rattle.line.proofs.PrintLaw.{one-digit_put, put}
 use Rattle.line.proofs.printing.put_field.Goals as goal
 
 room : (c : goal.After-digit_count)
@@ -19,7 +19,10 @@ loop-i-preserved c = one-digit_put c.loop-i.invariant c.loop-i-test.true
 
 pub returns : goal.returns
 returns c =
-    let start = c.args in record { writes = put start.out.now start.end c.loop-i.invariant c.loop-i-test.false (ap (λ (k : ℕ). start.at + k) c.digit_count.ensures); short = omega (arith, at-most_20 start.n (omega arith)) }
+    let start = c.args in record {
+      writes = put start.out.now start.end c.loop-i.invariant c.loop-i-test.false (ap (λ (k : ℕ). start.at + k) c.digit_count.ensures);
+      short = omega (arith, at-most_20 start.n (omega arith));
+    }
 
 pub overflow_add-stop : goal.overflow_add-stop
 overflow_add-stop c =

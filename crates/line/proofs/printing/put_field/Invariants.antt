@@ -1,9 +1,4 @@
-use Prim.Native.Nat.{ℕ, ◌+◌, ◌<◌}
-use mathlib.Core.Path.{refl, ap}
-use native.Mathlib.Omega.{arith}
-use lib.ListN.{length, length-set}
-use Rattle.line.proofs.DecimalLaw.{at-most_20}
-use Rattle.line.proofs.PrintLaw.{Filling, one-digit_put, put}
+use Rattle.line.proofs.PrintLaw.{Filling}
 use Rattle.line.proofs.printing.put_field.Given as goal
 
 abbrev pub invariant-loop-i : goal.invariant-loop-i

@@ -1,8 +1,6 @@
 -- Invariant: what is left of the line from i on, read on, gives the whole answer.
-use Prim.Native.Nat.{◌-◌}
 use mathlib.Core.Path.{refl}
-use lib.ListN.{length}
-use Rattle.line.proofs.LineLaw.{Left, taken_over, taken_stop, turned}
+use Rattle.line.proofs.LineLaw.{taken_over, taken_stop, turned}
 use Rattle.line.proofs.readings.take_line.Goals as goal
 
 pub loop-i-preserved : goal.loop-i-preserved

@@ -1,7 +1,6 @@
 use Prim.Native.Nat.{◌-◌}
-use mathlib.Core.Path.{refl}
 use lib.ListN.{length}
-use Rattle.line.proofs.LineLaw.{Left, taken_over, taken_stop, turned}
+use Rattle.line.proofs.LineLaw.{Left}
 use Rattle.line.proofs.readings.take_line.Given as goal
 
 abbrev pub invariant-loop-i : goal.invariant-loop-i

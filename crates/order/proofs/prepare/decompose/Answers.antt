@@ -10,7 +10,8 @@ use Rattle.order.proofs.prepare.decompose.Goals as goal
 pub returns-in-Because : goal.returns-in-Because
 returns-in-Because c =
     let kinds : let a = c.args in
-    (m : Machine) → Sources m a.sound a.x a.a a.x a.a → verdict_of c.number_why-v.result ≡ record_refusal (Decompose a.d a.x a.l) m = λ m of. let a = c.args in
+    (m : Machine) → Sources m a.sound a.x a.a a.x a.a → verdict_of c.number_why-v.result ≡ record_refusal (Decompose a.d a.x a.l)
+    m = λ m of. let a = c.args in
     decompose_refusal m a.d a.x a.l of c.width.ensures c.less-most.ensures c.number_why-v.ensures in
     λ m of.
     let a = c.args in
@@ -19,7 +20,8 @@ returns-in-Because c =
 pub returns-in-Fine : goal.returns-in-Fine
 returns-in-Fine c =
     let kinds : let a = c.args in
-    (m : Machine) → Sources m a.sound a.x a.a a.x a.a → verdict_of c.number_why-v.result ≡ record_refusal (Decompose a.d a.x a.l) m = λ m of. let a = c.args in
+    (m : Machine) → Sources m a.sound a.x a.a a.x a.a → verdict_of c.number_why-v.result ≡ record_refusal (Decompose a.d a.x a.l)
+    m = λ m of. let a = c.args in
     decompose_refusal m a.d a.x a.l of c.width.ensures c.less-most.ensures c.number_why-v.ensures in
     λ m of.
     let a = c.args in

@@ -10,7 +10,8 @@ use Rattle.order.proofs.prepare.multiply.Goals as goal
 pub returns-in-Because : goal.returns-in-Because
 returns-in-Because c =
     let kinds : let a = c.args in
-    (m : Machine) → Sources m a.sound a.x a.a a.y a.b → verdict_of c.pair_why-v.result ≡ record_refusal (Multiply a.d a.x a.y) m = λ m of. let a = c.args in
+    (m : Machine) → Sources m a.sound a.x a.a a.y a.b → verdict_of c.pair_why-v.result ≡ record_refusal (Multiply a.d a.x a.y) m =
+    λ m of. let a = c.args in
     (pair_refusal m a.d a.x a.y of c.pair_why-v.ensures).1 in
     λ m of.
     let a = c.args in
@@ -19,7 +20,8 @@ returns-in-Because c =
 pub returns-in-Fine : goal.returns-in-Fine
 returns-in-Fine c =
     let kinds : let a = c.args in
-    (m : Machine) → Sources m a.sound a.x a.a a.y a.b → verdict_of c.pair_why-v.result ≡ record_refusal (Multiply a.d a.x a.y) m = λ m of. let a = c.args in
+    (m : Machine) → Sources m a.sound a.x a.a a.y a.b → verdict_of c.pair_why-v.result ≡ record_refusal (Multiply a.d a.x a.y) m =
+    λ m of. let a = c.args in
     (pair_refusal m a.d a.x a.y of c.pair_why-v.ensures).1 in
     λ m of.
     let a = c.args in

@@ -1,10 +1,9 @@
 -- Invariant: k words are copied.
-use Prim.Native.Nat.{◌-◌, ◌≤◌}
 use mathlib.Core.Path.{◌≡◌, refl}
 use native.Mathlib.Omega.{arith}
 use borrow.Author.Count.{below_none}
-use lib.ListN.{get_or, length, length-set}
-use Rattle.planes.specs.Planes.{Copied, words_at}
+use lib.ListN.{get_or, length-set}
+use Rattle.planes.specs.Planes.{words_at}
 use Rattle.planes.proofs.RowLaw.{row_more}
 use Rattle.planes.proofs.rows.copy.Goals as goal
 

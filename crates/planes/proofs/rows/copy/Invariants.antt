@@ -1,10 +1,7 @@
 use Prim.Native.Nat.{◌-◌, ◌≤◌}
-use mathlib.Core.Path.{◌≡◌, refl}
-use native.Mathlib.Omega.{arith}
-use borrow.Author.Count.{below_none}
-use lib.ListN.{get_or, length, length-set}
-use Rattle.planes.specs.Planes.{Copied, words_at}
-use Rattle.planes.proofs.RowLaw.{row_more}
+use mathlib.Core.Path.{◌≡◌}
+use lib.ListN.{length}
+use Rattle.planes.specs.Planes.{Copied}
 use Rattle.planes.proofs.rows.copy.Given as goal
 
 abbrev pub invariant-loop-k : goal.invariant-loop-k

@@ -1,12 +1,12 @@
 -- Invariant: k rows hold two figures each.
-use Prim.Native.Nat.{ℕ, ◌*◌, ◌%◌, ◌+◌, ◌-◌, ◌<◌, ◌≤◌, ◌^◌}
+use Prim.Native.Nat.{ℕ, ◌*◌, ◌%◌, ◌+◌, ◌<◌, ◌^◌}
 use mathlib.Core.Path.{◌≡◌, ap, ap₂, ◌∙◌}
 use native.Mathlib.Omega.{arith}
 use borrow.Rule.Slice.PartMut.{mid_len}
-use lib.ListN.{length, length-set}
+use lib.ListN.{length-set}
 use Rattle.ring.specs.Rings.{modulus_of}
 use Rattle.planes.specs.Planes.{four_times_at}
-use Rattle.planes.proofs.RowLaw.{Paired, halves_are, none_paired, pair_shifted, paired_more, narrow_lt}
+use Rattle.planes.proofs.RowLaw.{halves_are, none_paired, pair_shifted, paired_more, narrow_lt}
 use Rattle.planes.proofs.rows.narrow_planes.Goals as goal
 
 pub four_times-low-requires : goal.four_times-low-requires

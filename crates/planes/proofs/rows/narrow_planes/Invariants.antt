@@ -1,11 +1,9 @@
-use Prim.Native.Nat.{ℕ, ◌*◌, ◌%◌, ◌+◌, ◌-◌, ◌<◌, ◌≤◌, ◌^◌}
-use mathlib.Core.Path.{◌≡◌, ap, ap₂, ◌∙◌}
-use native.Mathlib.Omega.{arith}
-use borrow.Rule.Slice.PartMut.{mid_len}
-use lib.ListN.{length, length-set}
+use Prim.Native.Nat.{◌-◌, ◌≤◌}
+use mathlib.Core.Path.{◌≡◌}
+use lib.ListN.{length}
 use Rattle.ring.specs.Rings.{modulus_of}
 use Rattle.planes.specs.Planes.{four_times_at}
-use Rattle.planes.proofs.RowLaw.{Paired, halves_are, none_paired, pair_shifted, paired_more, narrow_lt}
+use Rattle.planes.proofs.RowLaw.{Paired}
 use Rattle.planes.proofs.rows.narrow_planes.Given as goal
 
 abbrev pub invariant-loop-k : goal.invariant-loop-k

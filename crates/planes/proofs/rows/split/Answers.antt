@@ -1,9 +1,7 @@
 -- Invariant: k rows are split.
-use Prim.Native.Nat.{◌-◌, ◌≤◌}
 use mathlib.Core.Path.{◌≡◌}
 use native.Mathlib.Omega.{arith}
-use lib.ListN.{length, length-set}
-use Rattle.planes.specs.Planes.{Split}
+use lib.ListN.{length-set}
 use Rattle.planes.proofs.RowLaw.{none_split, split_more}
 use Rattle.planes.proofs.rows.split.Goals as goal
 

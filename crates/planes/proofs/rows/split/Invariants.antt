@@ -1,9 +1,7 @@
 use Prim.Native.Nat.{◌-◌, ◌≤◌}
 use mathlib.Core.Path.{◌≡◌}
-use native.Mathlib.Omega.{arith}
-use lib.ListN.{length, length-set}
+use lib.ListN.{length}
 use Rattle.planes.specs.Planes.{Split}
-use Rattle.planes.proofs.RowLaw.{none_split, split_more}
 use Rattle.planes.proofs.rows.split.Given as goal
 
 abbrev pub invariant-loop-k : goal.invariant-loop-k

@@ -1,11 +1,8 @@
 use Prim.Native.Nat.{ℕ, ◌-◌, ◌<◌, ◌≤◌}
 use mathlib.Core.Path.{◌≡◌}
-use native.Mathlib.Omega.{arith}
-use borrow.Author.Count.{below_none}
-use lib.ListN.{get_or, length, length-set}
+use lib.ListN.{get_or, length}
 use Rattle.ring.specs.Rings.{modulus_of}
 use Rattle.planes.specs.Planes.{four_times_at}
-use Rattle.planes.proofs.RowLaw.{four_times_lt, planes_are, row_more}
 use Rattle.planes.proofs.rows.wide_planes.Given as goal
 
 abbrev pub invariant-loop-k : goal.invariant-loop-k

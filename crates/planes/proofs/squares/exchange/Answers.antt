@@ -1,9 +1,8 @@
 -- Invariant: l pairs are exchanged.
-use Prim.Native.Nat.{◌-◌, ◌≤◌}
 use mathlib.Core.Path.{◌≡◌, refl}
 use native.Mathlib.Omega.{arith}
-use lib.ListN.{length, length-set}
-use Rattle.planes.specs.Squares.{Exchanged, flips, lower_row, upper_row}
+use lib.ListN.{length-set}
+use Rattle.planes.specs.Squares.{flips, lower_row, upper_row}
 use Rattle.planes.proofs.TurnLaw.{none_exchanged, one_exchanged}
 use Rattle.planes.proofs.squares.exchange.Goals as goal
 

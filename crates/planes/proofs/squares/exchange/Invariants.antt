@@ -1,9 +1,7 @@
 use Prim.Native.Nat.{◌-◌, ◌≤◌}
-use mathlib.Core.Path.{◌≡◌, refl}
-use native.Mathlib.Omega.{arith}
-use lib.ListN.{length, length-set}
-use Rattle.planes.specs.Squares.{Exchanged, flips, lower_row, upper_row}
-use Rattle.planes.proofs.TurnLaw.{none_exchanged, one_exchanged}
+use mathlib.Core.Path.{◌≡◌}
+use lib.ListN.{length}
+use Rattle.planes.specs.Squares.{Exchanged}
 use Rattle.planes.proofs.squares.exchange.Given as goal
 
 abbrev pub invariant-loop-l : goal.invariant-loop-l

@@ -1,11 +1,7 @@
-use Prim.Native.Nat.{◌+◌, ◌*◌, ◌-◌, ◌≤◌}
-use mathlib.Core.Path.{◌≡◌, ◌∙◌, refl}
-use native.Mathlib.Nat.{mul-le-mul_right}
-use native.Mathlib.Omega.{arith}
-use borrow.Author.Rules.{rules}
+use Prim.Native.Nat.{◌-◌, ◌≤◌}
+use mathlib.Core.Path.{◌≡◌}
 use lib.ListN.{length}
 use Rattle.planes.specs.Squares.{Levelled}
-use Rattle.planes.proofs.TurnLaw.{none_levelled, one_levelled}
 use Rattle.planes.proofs.squares.level.Given as goal
 
 abbrev pub invariant-loop-q : goal.invariant-loop-q

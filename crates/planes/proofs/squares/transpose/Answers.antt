@@ -1,5 +1,4 @@
 use borrow.Author.Rules.{rules}
-use native.Mathlib.Omega.{arith}
 use Rattle.planes.proofs.MaskLaw.{sixth_level}
 use Rattle.planes.proofs.squares.transpose.Goals as goal
 

@@ -1,5 +1,4 @@
 use borrow.Author.Rules.{rules}
-use native.Mathlib.Omega.{arith}
 use Rattle.planes.proofs.MaskLaw.{five_levels}
 use Rattle.planes.proofs.squares.transpose_halves.Goals as goal
 

@@ -22,11 +22,19 @@ returns c =
     let rotates : Cong a.p (rotated a.e a.k a.a) (2 ^ a.k * a.a)
     = rw c.requires.sized.is (rotated_cong a.e a.k a.a (omega arith)) in
     let sum : Cong a.p (a.s + c.rotate_word.result) (a.s + 2 ^ a.k * a.a)
-    = rw c.rotate_word.ensures (cong_add (cong_refl a.s) rotates) in record { is = folded_near _ _ (a.s + c.rotate_word.result) (a.s + 2 ^ a.k * a.a) c.requires.sized.is c.fold.ensures sum; below = rw c.fold.ensures (fold-lt _ _ _ c.requires.sized.is (room c.before).0) }
+    = rw c.rotate_word.ensures (cong_add (cong_refl a.s) rotates) in record {
+      is = folded_near _ _ (a.s + c.rotate_word.result) (a.s + 2 ^ a.k * a.a) c.requires.sized.is c.fold.ensures sum;
+      below = rw c.fold.ensures (fold-lt _ _ _ c.requires.sized.is (room c.before).0);
+    }
 
 pub rotate_word-requires : goal.rotate_word-requires
 rotate_word-requires c =
-    record { modulus = c.requires.sized.is; width = omega arith; places = omega arith; room = omega (arith, most c, sized_lt c.requires.sized) }
+    record {
+      modulus = c.requires.sized.is;
+      width = omega arith;
+      places = omega arith;
+      room = omega (arith, most c, sized_lt c.requires.sized);
+    }
 
 pub overflow_add-s : goal.overflow_add-s
 overflow_add-s c =

@@ -25,7 +25,10 @@ room c =
     omega (arith, left c, right c, center c, mul-le-mul large (le_refl (2 ^ (2 * c.args.k + 1))), odd_power c.args.k)
 
 pub returns : goal.returns
-returns c = record { is = summed_cong c.args.k c.args.p c.requires.modulus c.args.a c.args.b c.args.c c.args.d c.requires.width.1; below = (room c, omega (arith, left c, right c, center c)) }
+returns c = record {
+  is = summed_cong c.args.k c.args.p c.requires.modulus c.args.a c.args.b c.args.c c.args.d c.requires.width.1;
+  below = (room c, omega (arith, left c, right c, center c));
+}
 
 pub overflow_mul-m : goal.overflow_mul-m
 overflow_mul-m c =

@@ -15,7 +15,10 @@ pub returns : goal.returns
 returns c =
     let a = c.args in
     let one : a.a * a.b + 0 * 0 ≡ a.a * a.b = omega arith in
-    record { is = c.reduce_short.ensures.is ∙ (cong_trans c.columns.ensures.is (cong_of_eq one)).same; below = c.reduce_short.ensures.below }
+    record {
+      is = c.reduce_short.ensures.is ∙ (cong_trans c.columns.ensures.is (cong_of_eq one)).same;
+      below = c.reduce_short.ensures.below;
+    }
 
 pub columns-requires : goal.columns-requires
 columns-requires c =

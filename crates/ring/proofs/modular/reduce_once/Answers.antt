@@ -20,4 +20,9 @@ overflow_add-result c =
 
 pub overflow_add-result-2 : goal.overflow_add-result-2
 overflow_add-result-2 c =
-    omega (arith, modulus_room c.requires.modulus c.requires.width, passes_once c.args.e c.args.p c.args.s c.requires.modulus c.requires.sum)
+    omega (
+      arith,
+      modulus_room c.requires.modulus c.requires.width,
+      passes_once c.args.e c.args.p c.args.s c.requires.modulus
+          c.requires.sum,
+    )

@@ -41,7 +41,8 @@ returns c =
     let early : c.args.p.lines < million = omega arith in
     let few = early in
     let channels = three c.take_command-turn.new.c0 c.take_command-turn.new.c1 c.take_command-turn.new.c2 in
-    let turn = turned_of c.take_command-turn.result c.take_command-turn.new.record c.take_command-turn.new.m0 c.take_command-turn.new.m1 c.take_command-turn.new.m2 c.take_command-turn.new.dealer channels in
+    let turn = turned_of c.take_command-turn.result c.take_command-turn.new.record c.take_command-turn.new.m0
+    c.take_command-turn.new.m1 c.take_command-turn.new.m2 c.take_command-turn.new.dealer channels in
     let is = by_reading {t = turn} begun c.command-command.ensures.is c.take_command-turn.ensures.is in
     let left = counts_left (ap (λ (q : Progress). q.counts) c.at_line-2.ensures) {T = masks_in}
     {U = three c.take_command-turn.new.m0 c.take_command-turn.new.m1 c.take_command-turn.new.m2}

@@ -1,14 +1,13 @@
 -- A chunk, part by part.
-use Prim.Native.Nat.{ℕ, ◌-◌, ◌≤◌, ◌<◌}
+use Prim.Native.Nat.{ℕ, ◌≤◌, ◌<◌}
 use mathlib.Core.List.{List}
-use mathlib.Core.Path.{◌≡◌, refl, sym, ◌∙◌}
+use mathlib.Core.Path.{refl, sym, ◌∙◌}
 use native.Mathlib.Omega.{arith}
 use lib.ListN.{drop, drop_of_length-le, length}
 use Rattle.gate.specs.Places.{three}
 use Rattle.layout.proofs.SaysLaw.{says_length}
-use Rattle.session.specs.Kept.{Grown, standing_of}
+use Rattle.session.specs.Kept.{standing_of}
 use Rattle.session.proofs.AdvanceLaw.{advanced_all, advanced_none, advanced_on}
-use Rattle.session.proofs.FeedLaw.{Feeding}
 use Rattle.session.proofs.GrownLaw.{grown_none, grown_on}
 use Rattle.session.proofs.lines.feed.Goals as goal
 
@@ -30,7 +29,13 @@ pub take_one-a-requires : goal.take_one-a-requires
 take_one-a-requires c =
     let inside : c.loop-i.i < length c.args.buf.now = omega arith in
     let inv = c.loop-i.invariant.0 in
-    record { machine = inv.machine; masks = inv.masks; dealer = inv.items; inside = inside; room = omega (arith, inside, inv.short, inv.long, c.requires.room) }
+    record {
+      machine = inv.machine;
+      masks = inv.masks;
+      dealer = inv.items;
+      inside = inside;
+      room = omega (arith, inside, inv.short, inv.long, c.requires.room);
+    }
 
 pub loop-i-smaller : goal.loop-i-smaller
 loop-i-smaller c =
@@ -40,10 +45,12 @@ pub loop-i-preserved : goal.loop-i-preserved
 loop-i-preserved c =
     let inv = c.loop-i.invariant in
     let after = three {A = List ℕ} c.take_one-a.new.c0 c.take_one-a.new.c1 c.take_one-a.new.c2 in
-    let standing = standing_of c.take_one-a.result.progress c.take_one-a.new.record c.take_one-a.new.m0 c.take_one-a.new.m1 c.take_one-a.new.m2 c.take_one-a.new.dealer after in
+    let standing = standing_of c.take_one-a.result.progress c.take_one-a.new.record c.take_one-a.new.m0 c.take_one-a.new.m1
+    c.take_one-a.new.m2 c.take_one-a.new.dealer after in
     let rest = drop c.take_one-a.result.next c.args.buf.now in (
       record {
-        done = advanced_on {u = standing} {zs = rest} {exit = c.take_one-a.new.out} inv.0.done c.take_one-a.ensures.is (omega (arith, inv.0.short, inv.0.within, c.requires.room));
+        done = advanced_on {u = standing} {zs = rest} {exit = c.take_one-a.new.out} inv.0.done c.take_one-a.ensures.is
+            (omega (arith, inv.0.short, inv.0.within, c.requires.room));
         within = c.take_one-a.ensures.within;
         short = omega (arith, c.take_one-a.ensures.short, inv.0.short);
         long = omega (arith, inv.0.long);
@@ -51,7 +58,11 @@ loop-i-preserved c =
         masks = c.take_one-a.ensures.masks;
         items = c.take_one-a.ensures.dealer;
       },
-      (grown_on {W = three {A = List ℕ} c.take_one-a.new.m0 c.take_one-a.new.m1 c.take_one-a.new.m2} {f = c.take_one-a.new.dealer} inv.1.0 c.take_one-a.ensures.rest, (omega (arith, inv.1.1.0), (omega (arith, inv.1.1.1.0), omega (arith, inv.1.1.1.1)))),
+      (
+        grown_on {W = three {A = List ℕ} c.take_one-a.new.m0 c.take_one-a.new.m1 c.take_one-a.new.m2} {f = c.take_one-a.new.dealer}
+            inv.1.0 c.take_one-a.ensures.rest,
+        (omega (arith, inv.1.1.0), (omega (arith, inv.1.1.1.0), omega (arith, inv.1.1.1.1))),
+      ),
     )
 
 pub shape_of-record : goal.shape_of-record
@@ -64,7 +75,15 @@ pub returns : goal.returns
 returns c =
     let inv = c.loop-i.invariant.0 in
     let all = advanced_all inv.done (drop_of_length-le _ (over c)) in
-    record { is = all.0; writes = all.1; within = omega (arith, inv.short, inv.within, inv.long, c.requires.room); machine = inv.machine; masks = inv.masks; dealer = inv.items; rest = c.loop-i.invariant.1.0 }
+    record {
+      is = all.0;
+      writes = all.1;
+      within = omega (arith, inv.short, inv.within, inv.long, c.requires.room);
+      machine = inv.machine;
+      masks = inv.masks;
+      dealer = inv.items;
+      rest = c.loop-i.invariant.1.0;
+    }
 
 pub shape_of-m0 : goal.shape_of-m0
 shape_of-m0 c =

@@ -1,19 +1,15 @@
-use Prim.Native.Nat.{ℕ, ◌-◌, ◌≤◌, ◌<◌}
-use mathlib.Core.List.{List}
-use mathlib.Core.Path.{◌≡◌, refl, sym, ◌∙◌}
-use native.Mathlib.Omega.{arith}
-use lib.ListN.{drop, drop_of_length-le, length}
+use Prim.Native.Nat.{◌-◌}
+use mathlib.Core.Path.{◌≡◌}
+use lib.ListN.{length}
 use Rattle.gate.specs.Places.{three}
-use Rattle.layout.proofs.SaysLaw.{says_length}
 use Rattle.session.specs.Kept.{Grown, standing_of}
-use Rattle.session.proofs.AdvanceLaw.{advanced_all, advanced_none, advanced_on}
 use Rattle.session.proofs.FeedLaw.{Feeding}
-use Rattle.session.proofs.GrownLaw.{grown_none, grown_on}
 use Rattle.session.proofs.lines.feed.Given as goal
 
 abbrev pub invariant-loop-i : goal.invariant-loop-i
 invariant-loop-i l =
-    Feeding l.buf (standing_of l.initial.q l.initial.record l.initial.m0 l.initial.m1 l.initial.m2 l.initial.dealer (three l.initial.c0 l.initial.c1 l.initial.c2)) l.initial.out l.record l.m0 l.m1 l.m2 l.dealer l.c0 l.c1 l.c2 l.out l.q l.i l.at
+    Feeding l.buf (standing_of l.initial.q l.initial.record l.initial.m0 l.initial.m1 l.initial.m2 l.initial.dealer
+    (three l.initial.c0 l.initial.c1 l.initial.c2)) l.initial.out l.record l.m0 l.m1 l.m2 l.dealer l.c0 l.c1 l.c2 l.out l.q l.i l.at
     × (Grown l.initial.q.counts l.q.counts (three l.initial.m0 l.initial.m1 l.initial.m2) (three l.m0 l.m1 l.m2) l.initial.dealer l.dealer
     × ((length l.c0 ≡ length l.initial.c0) × ((length l.c1 ≡ length l.initial.c1) × (length l.c2 ≡ length l.initial.c2))))
 

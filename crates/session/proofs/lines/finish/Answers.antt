@@ -14,14 +14,30 @@ returns-then-reading c =
     let begun : Standing = standing_of c.args.p c.args.«record».now c.args.m0.now c.args.m1.now c.args.m2.now c.args.dealer.now
     (three c.args.c0.now c.args.c1.now c.args.c2.now) in
     let last = last-seen begun c.if-reading.true in
-    record { is = rw last.0 at c.end_line.ensures.is; writes = wrote_same last.1 c.end_line.ensures.writes; within = omega (arith, c.end_line.ensures.short, c.requires.room, c.out-1.given); machine = c.end_line.ensures.machine; masks = c.end_line.ensures.masks; dealer = c.end_line.ensures.dealer; rest = c.end_line.ensures.rest }
+    record {
+      is = rw last.0 at c.end_line.ensures.is;
+      writes = wrote_same last.1 c.end_line.ensures.writes;
+      within = omega (arith, c.end_line.ensures.short, c.requires.room, c.out-1.given);
+      machine = c.end_line.ensures.machine;
+      masks = c.end_line.ensures.masks;
+      dealer = c.end_line.ensures.dealer;
+      rest = c.end_line.ensures.rest;
+    }
 
 pub returns : goal.returns
 returns c =
     let begun : Standing = standing_of c.args.p c.args.«record».now c.args.m0.now c.args.m1.now c.args.m2.now c.args.dealer.now
     (three c.args.c0.now c.args.c1.now c.args.c2.now) in
     let last = last_unseen begun c.if-reading.false in
-    record { is = last.0; writes = wrote_same last.1 (wrote_none 0 c.args.out.now); within = omega arith; machine = c.requires.machine; masks = c.requires.masks; dealer = c.requires.dealer; rest = grown_none _ _ _ refl }
+    record {
+      is = last.0;
+      writes = wrote_same last.1 (wrote_none 0 c.args.out.now);
+      within = omega arith;
+      machine = c.requires.machine;
+      masks = c.requires.masks;
+      dealer = c.requires.dealer;
+      rest = grown_none _ _ _ refl;
+    }
 
 pub end_line-requires : goal.end_line-requires
 end_line-requires c =

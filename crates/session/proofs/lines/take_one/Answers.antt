@@ -16,7 +16,8 @@ pub returns-then-buf-stop : goal.returns-then-buf-stop
 returns-then-buf-stop c =
     let begun : Standing = standing_of c.args.p c.args.«record».now c.args.m0.now c.args.m1.now c.args.m2.now c.args.dealer.now
     (three c.args.c0.now c.args.c1.now c.args.c2.now) in
-    let within : c.take_line-taken.result.at ≤ length c.args.buf.now = stop_within begun c.args.buf.now c.args.i c.take_line-taken.result.at c.take_line-taken.result.reading
+    let within : c.take_line-taken.result.at ≤ length c.args.buf.now
+    = stop_within begun c.args.buf.now c.args.i c.take_line-taken.result.at c.take_line-taken.result.reading
     c.take_line-taken.ensures.reading c.take_line-taken.ensures.stop c.requires.inside in
     let stops = within in record {
       is = advanced_open begun c.args.buf.now c.args.i c.take_line-taken.result.at c.take_line-taken.result.reading
@@ -36,9 +37,13 @@ returns c =
     (three c.args.c0.now c.args.c1.now c.args.c2.now) in
     let inside : c.take_line-taken.result.at < length c.args.buf.now = omega arith in
     let stops = inside in
-    let standing = standing_of c.end_line-printed.result.progress c.end_line-printed.new.record c.end_line-printed.new.m0 c.end_line-printed.new.m1 c.end_line-printed.new.m2 c.end_line-printed.new.dealer (three c.end_line-printed.new.c0 c.end_line-printed.new.c1 c.end_line-printed.new.c2) in record {
+    let standing = standing_of c.end_line-printed.result.progress c.end_line-printed.new.record c.end_line-printed.new.m0
+    c.end_line-printed.new.m1 c.end_line-printed.new.m2 c.end_line-printed.new.dealer
+    (three c.end_line-printed.new.c0 c.end_line-printed.new.c1 c.end_line-printed.new.c2) in
+    record {
       is = advanced_closed begun c.args.buf.now c.args.i c.take_line-taken.result.at c.take_line-taken.result.reading
-          c.take_line-taken.ensures.reading c.take_line-taken.ensures.stop {v = standing} c.end_line-printed.ensures.is c.end_line-printed.ensures.writes stops c.requires.inside;
+          c.take_line-taken.ensures.reading c.take_line-taken.ensures.stop {v = standing} c.end_line-printed.ensures.is
+          c.end_line-printed.ensures.writes stops c.requires.inside;
       further = omega (arith, c.take_line-taken.ensures.stop);
       within = omega (arith, stops);
       short = omega (arith, c.take_line-taken.ensures.stop, c.end_line-printed.ensures.short);

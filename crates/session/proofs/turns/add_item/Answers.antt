@@ -11,7 +11,7 @@ returns-then-at-ge-MOST c =
     let n = c.args.n in
     record {
       is = λ ws t₀ t₁ t₂ ch.
-          c.decline.ensures.c_value ws t₀ t₁ t₂ _ ch
+          c.decline.ensures.is ws t₀ t₁ t₂ _ ch
           ∙ item_full _ _ _ _ n.dealer _ _ ch c.requires.run c.requires.few (omega arith);
       fits = same_dealer (ap (λ (n : Counts). n.dealer) c.decline.ensures.same) c.requires;
       masks = ap (λ (n : Counts). n.masks) c.decline.ensures.same;
@@ -20,4 +20,9 @@ returns-then-at-ge-MOST c =
 
 pub returns : goal.returns
 returns c =
-    let n = c.args.n in record { is = λ ws t₀ t₁ t₂ ch. item_added _ _ _ _ n.dealer _ _ ch c.requires.run (omega arith); fits = more_dealer n _ c.args.item refl (omega arith) c.requires; masks = refl; rest = λ T. grown-item n _ T _ c.args.item refl refl }
+    let n = c.args.n in record {
+      is = λ ws t₀ t₁ t₂ ch. item_added _ _ _ _ n.dealer _ _ ch c.requires.run (omega arith);
+      fits = more_dealer n _ c.args.item refl (omega arith) c.requires;
+      masks = refl;
+      rest = λ T. grown-item n _ T _ c.args.item refl refl;
+    }

@@ -11,7 +11,7 @@ returns-then-at-ge-MOST c =
     let n = c.args.n in
     record {
       is = λ ws dealer ch.
-          c.decline.ensures.c_value ws _ _ _ dealer ch
+          c.decline.ensures.is ws _ _ _ dealer ch
           ∙ masks_full _ n.masks _ _ _ _ _ _ _ ch c.requires.zero c.requires.few (omega arith);
       fits = same_masks (ap (λ (n : Counts). n.masks) c.decline.ensures.same) c.requires;
       dealer = ap (λ (n : Counts). n.dealer) c.decline.ensures.same;
@@ -20,4 +20,9 @@ returns-then-at-ge-MOST c =
 
 pub returns : goal.returns
 returns c =
-    let n = c.args.n in record { is = λ ws dealer ch. masks_added _ n.masks _ _ _ _ _ _ _ ch c.requires.zero c.requires.one c.requires.two (omega arith); fits = more_masks n _ _ _ c.args.i0 c.args.i1 c.args.i2 refl (omega arith) c.requires; dealer = refl; rest = λ dealer. grown-masks n _ _ _ _ dealer c.args.i0 c.args.i1 c.args.i2 refl refl }
+    let n = c.args.n in record {
+      is = λ ws dealer ch. masks_added _ n.masks _ _ _ _ _ _ _ ch c.requires.zero c.requires.one c.requires.two (omega arith);
+      fits = more_masks n _ _ _ c.args.i0 c.args.i1 c.args.i2 refl (omega arith) c.requires;
+      dealer = refl;
+      rest = λ dealer. grown-masks n _ _ _ _ dealer c.args.i0 c.args.i1 c.args.i2 refl refl;
+    }

@@ -1,8 +1,5 @@
 -- Invariant: what is left from word i on gives the whole answer, for every number of items.
-use Prim.Native.Nat.{ℕ, suc, ◌-◌}
-use mathlib.Core.Path.{◌≡◌, refl, ◌∙◌}
-use lib.ListN.{length, drop}
-use Rattle.tape.specs.Tapes.{fill}
+use mathlib.Core.Path.{refl, ◌∙◌}
 use Rattle.tape.proofs.FillLaw.{ended_here, fits_here, again_here}
 use Rattle.tape.proofs.draws.draw_item.Goals as goal
 

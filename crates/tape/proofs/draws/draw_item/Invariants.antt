@@ -1,8 +1,7 @@
 use Prim.Native.Nat.{ℕ, suc, ◌-◌}
-use mathlib.Core.Path.{◌≡◌, refl, ◌∙◌}
+use mathlib.Core.Path.{◌≡◌}
 use lib.ListN.{length, drop}
 use Rattle.tape.specs.Tapes.{fill}
-use Rattle.tape.proofs.FillLaw.{ended_here, fits_here, again_here}
 use Rattle.tape.proofs.draws.draw_item.Given as goal
 
 abbrev pub invariant-loop-i : goal.invariant-loop-i

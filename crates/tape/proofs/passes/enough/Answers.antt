@@ -1,9 +1,7 @@
 -- Invariant: the raw words from `at` on suffice for the items left where all of them suffice for n.
-use mathlib.Core.Path.{◌≡◌, refl, sym, ap, ◌∙◌}
+use mathlib.Core.Path.{refl, sym, ap, ◌∙◌}
 use native.Mathlib.Omega.{arith}
-use lib.ListN.{drop}
 use Rattle.tape.specs.Draws.{suffices}
-use Rattle.tape.specs.Tapes.{fill}
 use Rattle.tape.proofs.FillLaw.{all-counted, counted, none_drawn}
 use Rattle.tape.proofs.passes.enough.Goals as goal
 

@@ -1,9 +1,7 @@
-use mathlib.Core.Path.{◌≡◌, refl, sym, ap, ◌∙◌}
-use native.Mathlib.Omega.{arith}
+use mathlib.Core.Path.{◌≡◌}
 use lib.ListN.{drop}
 use Rattle.tape.specs.Draws.{suffices}
 use Rattle.tape.specs.Tapes.{fill}
-use Rattle.tape.proofs.FillLaw.{all-counted, counted, none_drawn}
 use Rattle.tape.proofs.passes.enough.Given as goal
 
 abbrev pub invariant-loop-left : goal.invariant-loop-left

@@ -1,10 +1,9 @@
 -- Invariant: the items written, joined to what the raw words from `at` on give, are the whole filling.
-use Prim.Native.Nat.{ℕ, ◌-◌, ◌≤◌}
-use mathlib.Core.Path.{◌≡◌, refl, ap, ◌∙◌}
+use Prim.Native.Nat.{ℕ, ◌-◌}
+use mathlib.Core.Path.{refl, ap, ◌∙◌}
 use native.Mathlib.Nat.{sub-add-eq, sub-zero}
 use native.Mathlib.Omega.{arith}
-use lib.ListN.{length, length-set, drop, take}
-use Rattle.tape.specs.Tapes.{fill}
+use lib.ListN.{length, length-set, take}
 use Rattle.tape.proofs.FillLaw.{all-written, impossible, joined, joined_none, none_drawn, written}
 use Rattle.tape.proofs.passes.fill_run.Goals as goal
 

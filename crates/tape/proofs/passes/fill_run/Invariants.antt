@@ -1,16 +1,15 @@
-use Prim.Native.Nat.{ℕ, ◌-◌, ◌≤◌}
-use mathlib.Core.Path.{◌≡◌, refl, ap, ◌∙◌}
-use native.Mathlib.Nat.{sub-add-eq, sub-zero}
-use native.Mathlib.Omega.{arith}
-use lib.ListN.{length, length-set, drop, take}
+use Prim.Native.Nat.{◌-◌, ◌≤◌}
+use mathlib.Core.Path.{◌≡◌}
+use lib.ListN.{length, drop, take}
 use Rattle.tape.specs.Tapes.{fill}
-use Rattle.tape.proofs.FillLaw.{all-written, impossible, joined, joined_none, none_drawn, written}
+use Rattle.tape.proofs.FillLaw.{joined}
 use Rattle.tape.proofs.passes.fill_run.Given as goal
 
 abbrev pub invariant-loop-i : goal.invariant-loop-i
 invariant-loop-i l =
     (length l.run ≡ length l.initial.run) × (l.i ≤ length l.initial.run)
-    × (fill l.width l.limit (length l.initial.run) 0 l.raw ≡ joined (take l.i l.run) (fill l.width l.limit (length l.initial.run - l.i) l.at (drop l.at l.raw)))
+    × (fill l.width l.limit (length l.initial.run) 0 l.raw ≡ joined (take l.i l.run)
+    (fill l.width l.limit (length l.initial.run - l.i) l.at (drop l.at l.raw)))
 
 abbrev pub decreases-loop-i : goal.decreases-loop-i
 decreases-loop-i l = length l.initial.run - l.i

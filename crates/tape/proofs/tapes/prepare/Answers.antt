@@ -13,7 +13,10 @@ prepare_items-requires-in-Named c = omega (arith, c.width-width.ensures, width_l
 
 pub returns-in-Named : goal.returns-in-Named
 returns-in-Named c =
-    let asked = ring_asked _ _ _ c.if-code-eq1.false (sym c.of_width.ensures ∙ c.in-Named.is) in record { is = rw (c.width-width.ensures, c.modulus-limit.ensures) at c.prepare_items-in-Named.ensures ∙ sym asked; lent = refl }
+    let asked = ring_asked _ _ _ c.if-code-eq1.false (sym c.of_width.ensures ∙ c.in-Named.is) in record {
+      is = rw (c.width-width.ensures, c.modulus-limit.ensures) at c.prepare_items-in-Named.ensures ∙ sym asked;
+      lent = refl;
+    }
 
 pub returns-in-NoRing : goal.returns-in-NoRing
 returns-in-NoRing c =

@@ -1,12 +1,10 @@
 -- Invariant: gate i is reached.
-use Prim.Native.Nat.{◌-◌, ◌≤◌}
-use mathlib.Core.Path.{◌≡◌, ◌∙◌, refl}
+use Prim.Native.Nat.{◌-◌}
+use mathlib.Core.Path.{◌∙◌, refl}
 use native.Mathlib.Omega.{arith}
-use borrow.Author.Tests.{not-false, not-true}
 use borrow.Rule.Slice.PartMut.{mid_len, same_len_mid}
 use lib.ListN.{length}
-use Rattle.gate.specs.Places.{InRange, three}
-use Rattle.timing.proofs.ChainLaw.{Reached, at-start, full, range_of, stopped, test_of, went_on}
+use Rattle.timing.proofs.ChainLaw.{at-start, full, range_of, stopped, test_of, went_on}
 use Rattle.timing.proofs.chains.run_chain.Goals as goal
 
 pub loop-i-init : goal.loop-i-init
@@ -23,7 +21,13 @@ ring_gate-z-requires c =
     let room₀ = mid_len c.loop-i.i (length c.loop-i.c0) c.loop-i.c0 (omega arith) in
     let room₁ = mid_len c.loop-i.i (length c.loop-i.c1) c.loop-i.c1 (omega arith) in
     let room₂ = mid_len c.loop-i.i (length c.loop-i.c2) c.loop-i.c2 (omega arith) in
-    let fits = test_of _ refl c.in_range.ensures (c.if-not-in_range.false) in record { sized = c.requires.sized; left = c.loop-i.invariant.4; right = c.requires.right; items = range_of fits; room = record { zero = omega arith; one = omega arith; two = omega arith } }
+    let fits = test_of _ refl c.in_range.ensures (c.if-not-in_range.false) in record {
+      sized = c.requires.sized;
+      left = c.loop-i.invariant.4;
+      right = c.requires.right;
+      items = range_of fits;
+      room = record { zero = omega arith; one = omega arith; two = omega arith };
+    }
 
 pub overflow_add-i : goal.overflow_add-i
 overflow_add-i c =

@@ -19,7 +19,10 @@ returns-then-lengths_fit c =
 
 pub returns-else-lengths_fit : goal.returns-else-lengths_fit
 returns-else-lengths_fit c =
-    record { is = misfit _ _ _ _ _ c.of_width.ensures c.in-Named.is c.lengths_fit.ensures c.if-lengths_fit.false; lent = (refl, refl, refl) }
+    record {
+      is = misfit _ _ _ _ _ c.of_width.ensures c.in-Named.is c.lengths_fit.ensures c.if-lengths_fit.false;
+      lent = (refl, refl, refl);
+    }
 
 pub triple-from-requires : goal.triple-from-requires
 triple-from-requires c =

@@ -1,12 +1,9 @@
 -- Invariant: the products written, with those that are left, are all of them.
-use Prim.Native.Nat.{◌-◌, ◌≤◌}
-use mathlib.Core.List.{◌++◌}
-use mathlib.Core.Path.{◌≡◌, refl, sym, ◌∙◌}
+use mathlib.Core.Path.{refl, sym, ◌∙◌}
 use native.Mathlib.Omega.{arith}
-use lib.ListN.{drop, length, length-set, take}
+use lib.ListN.{length-set}
 use Rattle.ring.specs.Rings.{Sized}
 use Rattle.ring.proofs.RangeLaw.{sized}
-use Rattle.timing.specs.Products.{products}
 use Rattle.timing.proofs.ProductLaw.{all_done, one_more}
 use Rattle.timing.proofs.products.multiply_all.Goals as goal
 

@@ -1,12 +1,8 @@
 use Prim.Native.Nat.{◌-◌, ◌≤◌}
 use mathlib.Core.List.{◌++◌}
-use mathlib.Core.Path.{◌≡◌, refl, sym, ◌∙◌}
-use native.Mathlib.Omega.{arith}
-use lib.ListN.{drop, length, length-set, take}
-use Rattle.ring.specs.Rings.{Sized}
-use Rattle.ring.proofs.RangeLaw.{sized}
+use mathlib.Core.Path.{◌≡◌}
+use lib.ListN.{drop, length, take}
 use Rattle.timing.specs.Products.{products}
-use Rattle.timing.proofs.ProductLaw.{all_done, one_more}
 use Rattle.timing.proofs.products.multiply_all.Given as goal
 
 abbrev pub invariant-loop-i : goal.invariant-loop-i

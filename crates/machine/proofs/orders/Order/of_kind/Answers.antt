@@ -44,4 +44,14 @@ pub returns-in_default : goal.returns-in_default
 unfolding of_kind
 returns-in_default c =
     let other : (k : ℕ) → (c.args.kind ≡ k → ⊥) → eqb c.args.kind k ≡ false = λ k h. ne_eqb _ _ h in
-    simp (other 1 (omega arith), other 2 (omega arith), other 3 (omega arith), other 4 (omega arith), other 5 (omega arith), other 6 (omega arith), other 7 (omega arith), other 8 (omega arith))
+    simp (
+      other 1 (omega arith),
+      other 2 (omega arith),
+      other 3 (omega arith),
+      other 4 (omega arith),
+      other 5 (omega arith),
+      other
+          6 (omega arith),
+      other 7 (omega arith),
+      other 8 (omega arith),
+    )

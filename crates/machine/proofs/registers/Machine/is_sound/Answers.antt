@@ -1,12 +1,11 @@
 -- Invariant: the registers from i on decide.
-use Prim.Native.Nat.{◌-◌, ◌<◌, ◌≤◌}
+use Prim.Native.Nat.{◌<◌, ◌≤◌}
 use mathlib.Core.Bool.{Bool, ◌&&◌}
-use mathlib.Core.Path.{◌≡◌, refl, ap}
+use mathlib.Core.Path.{refl, ap}
 use native.Mathlib.Omega.{arith}
-use borrow.Author.Tests.{not-false, not-true}
 use lib.Dec.{leb}
-use lib.ListN.{drop, length, length-map}
-use Rattle.machine.specs.Registers.{million, sound, sound_slots}
+use lib.ListN.{length}
+use Rattle.machine.specs.Registers.{million, sound}
 use Rattle.machine.specs.declared.registers.Machine.{Machine}
 use Rattle.machine.proofs.SlotLaw.{sound_end, sound_past, unsound_at}
 use Rattle.machine.proofs.registers.Machine.is_sound.Goals as goal

@@ -1,13 +1,7 @@
-use Prim.Native.Nat.{◌-◌, ◌<◌, ◌≤◌}
-use mathlib.Core.Bool.{Bool, ◌&&◌}
-use mathlib.Core.Path.{◌≡◌, refl, ap}
-use native.Mathlib.Omega.{arith}
-use borrow.Author.Tests.{not-false, not-true}
-use lib.Dec.{leb}
-use lib.ListN.{drop, length, length-map}
-use Rattle.machine.specs.Registers.{million, sound, sound_slots}
-use Rattle.machine.specs.declared.registers.Machine.{Machine}
-use Rattle.machine.proofs.SlotLaw.{sound_end, sound_past, unsound_at}
+use Prim.Native.Nat.{◌-◌}
+use mathlib.Core.Path.{◌≡◌}
+use lib.ListN.{drop}
+use Rattle.machine.specs.Registers.{sound_slots}
 use Rattle.machine.proofs.registers.Machine.is_sound.Given as goal
 
 abbrev pub invariant-loop-i : goal.invariant-loop-i

@@ -2,7 +2,7 @@
 use Prim.Native.Nat.{◌≤◌}
 use mathlib.Core.Path.{refl, sym, ap}
 use native.Mathlib.Omega.{arith}
-use lib.ListN.{length, length-map, get_or-eq_default}
+use lib.ListN.{length, get_or-eq_default}
 use Rattle.machine.specs.Registers.{register_at, slot}
 use Rattle.machine.specs.declared.registers.Register.TheVariants.{Empty}
 use Rattle.machine.specs.declared.registers.Slot.{Slot}
