@@ -5,36 +5,52 @@ ghost use Rattle.std.specs.Prelude.{◌≤◌, length};
 ghost use Rattle.drawing.specs.Asks.{Few};
 
 use drawing::{Asked, Kind};
-use libc::{STDERR_FILENO, STDIN_FILENO};
+use std::env::{Env, FillError};
+use std::io::{Print, Read};
 
-fn main() {
-    if os::arg_count() != 4 {
-        say(b"draw: usage: draw RING COUNT masks|dealer, with raw bytes on standard input\n");
+fn main(rt: HostRuntime) {
+    if !is_given(&rt, 3) || is_given(&rt, 4) {
+        say(
+            rt,
+            b"draw: usage: draw RING COUNT masks|dealer, with raw bytes on standard input\n",
+        );
         return;
     }
-    // An argument that is longer than its buffer counts as empty, and will not do.
     let mut ring = [0u8; 32];
     let mut count = [0u8; 32];
     let mut kind = [0u8; 32];
-    let a = os::arg(1, &mut ring);
-    let b = os::arg(2, &mut count);
-    let c = os::arg(3, &mut kind);
-    answer(drawing::ask(&ring[..a], &count[..b], &kind[..c]));
+    let a = copy_argument(&rt, 1, &mut ring);
+    let b = copy_argument(&rt, 2, &mut count);
+    let c = copy_argument(&rt, 3, &mut kind);
+    answer(rt, drawing::ask(&ring[..a], &count[..b], &kind[..c]));
 }
 
-fn answer(asked: Asked)
+// Whether the program was started with an argument i.
+fn is_given(rt: &impl Env, i: usize) -> bool {
+    let mut first = [0u8; 1];
+    !matches!(rt.arg(i, &mut first), Err(FillError::NotPresent))
+}
+
+// Puts argument i at the start of its buffer, and answers its length. One that is longer than the buffer counts as empty, and will not do.
+fn copy_argument(rt: &impl Env, i: usize, buf: &mut [u8]) -> usize
+    ensures { result ≤ length buf.new }
+{
+    rt.arg(i, buf).unwrap_or(0)
+}
+
+fn answer(rt: HostRuntime, asked: Asked)
     requires { Few asked }
 {
     match asked {
-        Asked::NoRing => say(b"draw: RING is 13, 31 or 61, or 1 for bits\n"),
-        Asked::NoCount => say(b"draw: COUNT is a decimal of at most 512\n"),
-        Asked::NoKind => say(b"draw: the kind of line is masks or dealer\n"),
-        Asked::Lines { code, count, kind } => print_lines(code, count, kind),
+        Asked::NoRing => say(rt, b"draw: RING is 13, 31 or 61, or 1 for bits\n"),
+        Asked::NoCount => say(rt, b"draw: COUNT is a decimal of at most 512\n"),
+        Asked::NoKind => say(rt, b"draw: the kind of line is masks or dealer\n"),
+        Asked::Lines { code, count, kind } => print_lines(rt, code, count, kind),
     }
 }
 
-fn say(text: &[u8]) {
-    io::write_all(STDERR_FILENO, text);
+fn say(rt: HostRuntime, text: &[u8]) {
+    let _ = rt.stderr().write_all(text);
 }
 
 // How many raw bytes were read, and whether the system could read them all.
@@ -45,20 +61,19 @@ struct Raw {
 }
 
 // Reads until the run is full or the input ends.
-fn read_raw(raw: &mut [u8]) -> Raw
+fn read_raw(rt: HostRuntime, raw: &mut [u8]) -> Raw
     ensures { result.count ≤ length raw.new }
 {
     let mut n = 0;
     while n < raw.len() {
-        let got = libc::read(STDIN_FILENO, &mut raw[n..]);
-        streams::tell_unread(b"draw: standard input", got);
-        if got < 0 {
+        let got = rt.stdin().read(&mut raw[n..]);
+        streams::tell_unread(rt, b"draw: standard input", &got);
+        let Ok(more) = got else {
             return Raw {
                 count: n,
                 able: false,
             };
-        }
-        let more = io::count(got, &raw[n..]);
+        };
         if more == 0 {
             break;
         }
@@ -71,12 +86,12 @@ fn read_raw(raw: &mut [u8]) -> Raw
 }
 
 // Reads as many raw bytes as there are, at most 65,536, and prints all lines or none.
-fn print_lines(code: u64, count: u64, kind: Kind)
+fn print_lines(rt: HostRuntime, code: u64, count: u64, kind: Kind)
     requires { count ≤ 512 }
 {
-    let mut bytes = io::large_buffer();
-    let mut out = io::large_buffer();
-    let raw = read_raw(&mut bytes);
+    let mut bytes = [0u8; 65536];
+    let mut out = [0u8; 65536];
+    let raw = read_raw(rt, &mut bytes);
     if !raw.able {
         return;
     }
@@ -85,8 +100,8 @@ fn print_lines(code: u64, count: u64, kind: Kind)
     let length = drawn.length;
     // The ring code is one that there is, so a refusal says that the raw words ran out.
     if drawn.refusal != 0 {
-        say(b"draw: too few raw bytes on standard input\n");
+        say(rt, b"draw: too few raw bytes on standard input\n");
         return;
     }
-    streams::write(b"draw: standard output", &out[0..length]);
+    streams::write(rt, b"draw: standard output", &out[0..length]);
 }

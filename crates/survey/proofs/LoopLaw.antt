@@ -37,11 +37,6 @@ pub begins : {p : Progress} {ws c₀ c₁ c₂ : List ℕ} (m₀ m₁ m₂ deale
     → (c₀ ≡ zero_words) × ((c₁ ≡ zero_words) × (c₂ ≡ zero_words)) → standing_of p ws m₀ m₁ m₂ dealer (three c₀ c₁ c₂) ≡ begun
 begins m₀ m₁ m₂ dealer at words zeros = rw (at, words, zeros.0, zeros.1.0, zeros.1.1) (starts m₀ m₁ m₂ dealer)
 
--- each turn leaves fewer
-pub fewer_left : {turns left : ℕ} (more : Bool) → 0 < turns → left ≡ cond more (turns - 1) 0 → left < turns
-fewer_left true h e = omega (arith, e)
-fewer_left false h e = omega (arith, e)
-
 pub flatten_last : (chunks : List (List ℕ)) (last : List ℕ) → flatten (chunks ++ (last ∷ [])) ≡ flatten chunks ++ last
 unfolding flatten
 flatten_last [] last = append-nil last

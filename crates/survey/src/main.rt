@@ -3,7 +3,8 @@
 
 mod chunks;
 
-ghost use Rattle.std.specs.Prelude.{cond, ◌≡◌, ◌*◌, ◌-◌, ◌≤◌, ◌<◌, length};
+ghost use Rattle.std.specs.Io.{ReadsAtMost};
+ghost use Rattle.std.specs.Prelude.{IfOk, OnErr, cond, negsuc, pos, ◌≡◌, ◌*◌, ◌-◌, ◌≤◌, ◌<◌, length};
 ghost use Rattle.gate.specs.Lent.{at_entry_mut, at_exit};
 ghost use Rattle.machine.specs.Step.{written};
 ghost use Rattle.session.specs.Kept.{DealerFits, Grown, MasksFit, RecordFits, empty_words, entering, leaving, no_lines};
@@ -11,8 +12,9 @@ ghost use Rattle.session.specs.Outputs.{zero_words};
 ghost use Rattle.survey.specs.Chunks.{Ran, Reached, Took, after_input, printed_after};
 
 use chunks::{able, goes_on, take_read};
-use libc::STDIN_FILENO;
 use session::{Progress, finish};
+use std::io;
+use std::io::Read;
 
 // Where a chunk leaves the job, what its read answered, and whether what it prints was written.
 #[derive(Clone, Copy)]
@@ -23,12 +25,25 @@ struct Turn {
 }
 
 // Writes what was printed.
-fn write_out(bytes: &[u8]) -> bool {
-    streams::write(b"survey: standard output", bytes)
+fn write_out(rt: HostRuntime, bytes: &[u8]) -> bool {
+    streams::write(rt, b"survey: standard output", bytes)
+}
+
+// The answer of a read as a number: how many bytes it brought, 0 at the end of input, -1 where it failed.
+fn answered(got: &io::Result<usize>, buf: &[u8]) -> isize
+    requires { ReadsAtMost got.now buf.now }
+    ensures read { IfOk got.now (λ n. result ≡ pos n) }
+    ensures failed { OnErr got.now (result ≡ negsuc 0) }
+{
+    match got {
+        Ok(n) => *n as isize,
+        Err(_) => -1,
+    }
 }
 
 // Reads once, and writes what the lines of it print.
 fn take_chunk(
+    rt: HostRuntime,
     p: Progress,
     buf: &mut [u8],
     record: &mut [u64],
@@ -53,12 +68,13 @@ fn take_chunk(
     ensures dealer { DealerFits result.progress.counts dealer.new }
     ensures rest { Grown p.counts result.progress.counts (at_entry_mut m0 m1 m2) (at_exit m0 m1 m2) dealer.old dealer.new }
 {
-    let got = libc::read(STDIN_FILENO, buf);
-    streams::tell_unread(b"survey: standard input", got);
+    let read = rt.stdin().read(buf);
+    streams::tell_unread(rt, b"survey: standard input", &read);
+    let got = answered(&read, buf);
     let printed = take_read(p, got, buf, record, m0, m1, m2, dealer, c0, c1, c2, out);
     let progress = printed.progress;
     let at = printed.at;
-    let is_written = write_out(&out[0..at]);
+    let is_written = write_out(rt, &out[0..at]);
     Turn {
         progress,
         got,
@@ -76,6 +92,7 @@ fn fewer(turns: u64, more: bool) -> u64
 
 // All chunks. A proved loop has to end, so it counts its turns down, from a number that no run uses up.
 fn take_input(
+    rt: HostRuntime,
     buf: &mut [u8],
     record: &mut [u64],
     m0: &mut [u64],
@@ -107,7 +124,7 @@ fn take_input(
     let mut turns = u64::MAX;
     while 0 < turns {
         let p = turn.progress;
-        turn = take_chunk(p, buf, record, m0, m1, m2, dealer, c0, c1, c2, out);
+        turn = take_chunk(rt, p, buf, record, m0, m1, m2, dealer, c0, c1, c2, out);
         let left = turn.progress;
         turns = fewer(turns, goes_on(turn.got, turn.is_written, left.lines));
     }
@@ -116,6 +133,7 @@ fn take_input(
 
 // The end of input, and what its last line prints.
 fn end_input(
+    rt: HostRuntime,
     p: Progress,
     able: bool,
     record: &mut [u64],
@@ -141,12 +159,13 @@ fn end_input(
     }
     let last = finish(p, record, m0, m1, m2, dealer, c0, c1, c2, out);
     let at = last.at;
-    write_out(&out[0..at]);
+    write_out(rt, &out[0..at]);
     last.progress
 }
 
 // A whole job: where it stands at the end, and what the read and the write of its last chunk answered.
 fn run_job(
+    rt: HostRuntime,
     buf: &mut [u8],
     record: &mut [u64],
     m0: &mut [u64],
@@ -168,10 +187,10 @@ fn run_job(
         result.got result.is_written buf.new out.new }
     ensures rest { Grown no_lines result.progress.counts (at_entry_mut m0 m1 m2) (at_exit m0 m1 m2) dealer.old dealer.new }
 {
-    let last = take_input(buf, record, m0, m1, m2, dealer, c0, c1, c2, out);
+    let last = take_input(rt, buf, record, m0, m1, m2, dealer, c0, c1, c2, out);
     let p = last.progress;
     let is_able = able(last.got, last.is_written);
-    let ended = end_input(p, is_able, record, m0, m1, m2, dealer, c0, c1, c2, out);
+    let ended = end_input(rt, p, is_able, record, m0, m1, m2, dealer, c0, c1, c2, out);
     Turn {
         progress: ended,
         got: last.got,
@@ -179,7 +198,7 @@ fn run_job(
     }
 }
 
-fn main() {
+fn main(rt: HostRuntime) {
     let mut buf = [0u8; 2496];
     let mut record = [0u64; 83];
     let mut m0 = [0u64; 512];
@@ -191,6 +210,7 @@ fn main() {
     let mut c2 = [0u64; 1024];
     let mut out = [0u8; 262080];
     run_job(
+        rt,
         &mut buf,
         &mut record,
         &mut m0,
