@@ -88,11 +88,11 @@ module _ {E D : Type 0} {Same : Sameness E D} {s : Shared E D} where
     forth : KeepsPublic Same → Same s s → Words (J.masks_length U) own → Words (J.masks_length (next U)) far
         → (T T' : Tapes) → Meet J K T T' → (h : Hidden) → Hides J U h → Fair J (tapes_with U own far h)
         → Fair K (tapes_with U own far (image h)) × (views U J (tapes_with U own far h) ≡ views U K (tapes_with U own far (image h)))
-    forth same_public_lem self wo wf T T' meet h hides fair_j =
+    forth same_public self wo wf T T' meet h hides fair_j =
         let k = image h in
         let wo' = subst (λ (n : Place → ℕ). Words (n U) own) alike.masks_length wo in
         let wf' = subst (λ (n : Place → ℕ). Words (n (next U)) far) alike.masks_length wf in
-        forward same_public_lem U own far h k (lengths-whole U own far h start (changed h) alike.entries) T T'
+        forward same_public U own far h k (lengths-whole U own far h start (changed h) alike.entries) T T'
         (even_tapes U own far J T meet.run_j wo wf h hides)
         (even_tapes U own far K T' meet.run_k wo' wf' k (image_hides h hides))
         (changed h) alike.entries
@@ -120,7 +120,7 @@ module _ {E D : Type 0} {Same : Sameness E D} {s : Shared E D} where
       ∙ rest_empty s start h
 
   pub acting-secrecy : KeepsPublic Same → AtStart s → Same s s → Secrecy (acting Same s)
-  acting-secrecy same_public_lem start self J K a U own far wo wf =
+  acting-secrecy same_public start self J K a U own far wo wf =
       let wo' = subst (λ (n : Place → ℕ). Words (n U) own) a.masks_length wo in
       let wf' = subst (λ (n : Place → ℕ). Words (n (next U)) far) a.masks_length wf in
       let b = jobs_back a in
@@ -134,17 +134,17 @@ module _ {E D : Type 0} {Same : Sameness E D} {s : Shared E D} where
         from_to = λ h x. home start U own far J K a b h;
         to_from = λ h x. home start U own far K J b a h;
         fair = λ T T' meet h x. (
-          (λ f. (forth start U own far J K a same_public_lem self wo wf T T' meet h x f).0),
+          (λ f. (forth start U own far J K a same_public self wo wf T T' meet h x f).0),
           (λ f. subst (λ (y : Hidden). Fair J (tapes_with U own far y)) (home start U own far J K a b h)
-              (forth start U own far K J b same_public_lem self wo' wf' T' T (meet_back meet) (to h) (to_hides h x) f).0),
+              (forth start U own far K J b same_public self wo' wf' T' T (meet_back meet) (to h) (to_hides h x) f).0),
         );
-        alike = λ T T' meet h x f. (forth start U own far J K a same_public_lem self wo wf T T' meet h x f).1;
+        alike = λ T T' meet h x f. (forth start U own far J K a same_public self wo wf T T' meet h x f).1;
       }
 
   -- the change that it gives
-  pub to_is : (same_public_lem : KeepsPublic Same) (start : AtStart s) (self : Same s s) (J K : Job (acting Same s)) (a : Alike J K)
+  pub to_is : (same_public : KeepsPublic Same) (start : AtStart s) (self : Same s s) (J K : Job (acting Same s)) (a : Alike J K)
       (U : Place) (own far : List ℕ) (wo : Words (J.masks_length U) own) (wf : Words (J.masks_length (next U)) far) (h : Hidden)
-      → (acting-secrecy same_public_lem start self J K a U own far wo wf).to h
+      → (acting-secrecy same_public start self J K a U own far wo wf).to h
       ≡ (change U own far h J.entries K.entries a.entries s s J.channels K.channels).0
   unfolding acting-secrecy image
-  to_is same_public_lem start self J K a U own far wo wf h = refl
+  to_is same_public start self J K a U own far wo wf h = refl

@@ -68,11 +68,11 @@ views_from {Same = Same} {s = s} U es m c T = map (view_of (acting Same s) U) (c
 openings_alike : {E D : Type 0} {Same : Sameness E D} {s : Shared E D} → KeepsPublic Same → {e f : Entry (acting Same s)} → AlikeEntries e f
     → {U : Place} {mT nT m n : Shared E D} {cT dT c d : Place → List ℕ} → Four Same U mT nT m n cT dT c d
     → is_opening (e.act.work mT.public) ≡ is_opening (f.act.work nT.public)
-openings_alike same_public_lem alike {mT = mT} {nT = nT} {m = m} {n = n} four =
+openings_alike same_public alike {mT = mT} {nT = nT} {m = m} {n = n} four =
     opening_alike (works_alike alike.act
-    (same_public_lem mT m four.follows_j ∙ (on_level four).public ∙ sym (same_public_lem nT n four.follows_k)))
+    (same_public mT m four.follows_j ∙ (on_level four).public ∙ sym (same_public nT n four.follows_k)))
 
-module _ {E D : Type 0} {Same : Sameness E D} (same_public_lem : KeepsPublic Same)
+module _ {E D : Type 0} {Same : Sameness E D} (same_public : KeepsPublic Same)
     (U : Place) (own far : List ℕ) (h k : Hidden) (lens : SameLengths h k) (T T' : Tapes)
     (evenJ : EvenTapes T (tapes_with U own far h)) (evenK : EvenTapes T' (tapes_with U own far k)) where
   abbrev TJ : Tapes
@@ -100,7 +100,7 @@ module _ {E D : Type 0} {Same : Sameness E D} (same_public_lem : KeepsPublic Sam
     refusal_t : (outcome e mT T cT).refusal ≡ (outcome e m TJ c).refusal
     refusal_t =
         public_refusal e.act mT (lent e T) cT fairT.item
-        ∙ ap₂ e.act.refusal (same_public_lem mT m four.follows_j) (even_lengths e e refl refl T TJ evenJ cT c four.lengths_j)
+        ∙ ap₂ e.act.refusal (same_public mT m four.follows_j) (even_lengths e e refl refl T TJ evenJ cT c four.lengths_j)
         ∙ sym is_public_j
 
     -- K's public refusal is the same
@@ -114,20 +114,20 @@ module _ {E D : Type 0} {Same : Sameness E D} (same_public_lem : KeepsPublic Sam
     is_public_t' =
         public_refusal f.act nT (lent f T') dT fairT'.item
         ∙ ap₂ f.act.refusal
-        (same_public_lem nT n four.follows_k ∙ sym level.public)
+        (same_public nT n four.follows_k ∙ sym level.public)
         (even_lengths f f refl refl T' TK evenK dT d four.lengths_k
         ∙ sym (lengths_beside U own far f h k lens d)
         ∙ sym lengths_k')
 
-    same_public : public_j ≡ public_at
-    same_public =
+    public_same : public_j ≡ public_at
+    public_same =
         alike.act.refusals m.public (lengths_of (lent e TJ) c)
         (λ r. fair_j.number (subst e.act.NumberRefused (sym is_public_j) r))
         (λ r. fairT'.number (subst f.act.NumberRefused (sym is_public_t') r))
 
     -- all four refusals are one
     refusal_t' : (outcome f nT T' dT).refusal ≡ (outcome e m TJ c).refusal
-    refusal_t' = is_public_t' ∙ sym same_public ∙ sym is_public_j
+    refusal_t' = is_public_t' ∙ sym public_same ∙ sym is_public_j
 
     left_level : left_of n.public (lent f TJ) ≡ left_of m.public (lent e TJ)
     left_level = left_by (sym level.public) (sym alike.masks_lent) (sym alike.dealer_lent) TJ
@@ -136,7 +136,7 @@ module _ {E D : Type 0} {Same : Sameness E D} (same_public_lem : KeepsPublic Sam
     tested_k =
         refusal_is e.act m (lent e TJ) c
         ∙ ap₂ refusal_by
-        (same_public ∙ ap₂ f.act.refusal level.public lengths_k')
+        (public_same ∙ ap₂ f.act.refusal level.public lengths_k')
         (items_same (works_alike alike.act level.public) (left_of m.public (lent e TJ))
         ∙ ap (bad_item (f.act.work n.public)) (sym left_level))
         ∙ sym (refusal_is f.act n (lent f TJ) d)
@@ -222,7 +222,7 @@ module _ {E D : Type 0} {Same : Sameness E D} (same_public_lem : KeepsPublic Sam
           let w_t : Work E D = e.act.work mT.public in
           let w_t' : Work E D = f.act.work nT.public in
           let publics : mT.public ≡ nT.public
-          = same_public_lem mT m four.follows_j ∙ level.public ∙ sym (same_public_lem nT n four.follows_k) in
+          = same_public mT m four.follows_j ∙ level.public ∙ sym (same_public nT n four.follows_k) in
           let is_t : (outcome e mT T cT).value ≡ value_from w_t mT.share
           = ap (λ (o : Outcome (Shared E D)). o.value) (done_is e.act mT (lent e T) cT T-done) in
           let is_t' : (outcome f nT T' dT).value ≡ value_from w_t' nT.share
@@ -284,7 +284,7 @@ module _ {E D : Type 0} {Same : Sameness E D} (same_public_lem : KeepsPublic Sam
             lengths = λ i. outcome_long e alike.act.left m TJ c doneJ i ∙ four.lengths i ∙ sym (outcome_long f alike.act.right n TK d K-done i);
           })
 
-module _ {E D : Type 0} {Same : Sameness E D} {s : Shared E D} (same_public_lem : KeepsPublic Same)
+module _ {E D : Type 0} {Same : Sameness E D} {s : Shared E D} (same_public : KeepsPublic Same)
     (U : Place) (own far : List ℕ) (h k : Hidden) (lens : SameLengths h k) (T T' : Tapes)
     (evenJ : EvenTapes T (tapes_with U own far h)) (evenK : EvenTapes T' (tapes_with U own far k)) where
   pub forward : {es fs : List (Entry (acting Same s))} {m n mT nT : Shared E D} {c d cT dT : Place → List ℕ} {out : Hidden}
@@ -297,12 +297,12 @@ module _ {E D : Type 0} {Same : Sameness E D} {s : Shared E D} (same_public_lem 
   forward end jobs.done four rest jobs.done jobs.done opened jobs.done = (jobs.done, refl)
   forward {mT = mT} {nT = nT} {cT = cT} {dT = dT} (differ {e = e} {f = f} {m = m} {n = n} {c = c} {d = d} ne)
       (jobs.more a tail) four rest (jobs.fair fT restT) (jobs.fair fT' restT') opened (jobs.fair fJ rest_j) =
-      absurd (ne (tested_k same_public_lem U own far h k lens T T' evenJ evenK e f a mT nT m n cT dT c d four fT fT' fJ))
+      absurd (ne (tested_k same_public U own far h k lens T T' evenJ evenK e f a mT nT m n cT dT c d four fT fT' fJ))
   forward (item ten) (jobs.more a tail) four rest (jobs.fair fT restT) (jobs.fair fT' restT') opened (jobs.fair fJ rest_j) = absurd (fJ.item ten)
   forward {mT = mT} {nT = nT} {cT = cT} {dT = dT} (skip {e = e} {f = f} {es = es} {fs = fs} {m = m} {n = n} {c = c} {d = d} eq t z sub)
       (jobs.more a tail) four rest (jobs.fair fT restT) (jobs.fair fT' restT') opened (jobs.fair fJ rest_j) =
-      let is_t = refusal_t same_public_lem U own far h k lens T T' evenJ evenK e f a mT nT m n cT dT c d four fT fT' fJ in
-      let is_t' = refusal_t' same_public_lem U own far h k lens T T' evenJ evenK e f a mT nT m n cT dT c d four fT fT' fJ in
+      let is_t = refusal_t same_public U own far h k lens T T' evenJ evenK e f a mT nT m n cT dT c d four fT fT' fJ in
+      let is_t' = refusal_t' same_public U own far h k lens T T' evenJ evenK e f a mT nT m n cT dT c d four fT fT' fJ in
       let stayT = refused_is e.act mT (lent e T) cT (λ q. z (sym is_t ∙ q)) in
       let stayT' = refused_is f.act nT (lent f T') dT (λ q. z (sym is_t' ∙ q)) in
       let stayJ = refused_is e.act m (lent e (tapes_with U own far h)) c z in
@@ -312,8 +312,8 @@ module _ {E D : Type 0} {Same : Sameness E D} {s : Shared E D} (same_public_lem 
       (opened_from fs (outcome f nT T' dT).state (outcome f nT T' dT).channels T')
       (λ q. z (sym is_t ∙ q)) (λ q. z (sym is_t' ∙ q))
       (opened ∙ ap (λ (b : Bool). opens_with b (outcome f nT T' dT).refusal (outcome f nT T' dT).value
-      (opened_from fs (outcome f nT T' dT).state (outcome f nT T' dT).channels T')) (sym (openings_alike same_public_lem a four))) in
-      stay same_public_lem U own far h k lens T T' evenJ evenK e f a mT nT m n cT dT c d four fT fT' fJ z es fs
+      (opened_from fs (outcome f nT T' dT).state (outcome f nT T' dT).channels T')) (sym (openings_alike same_public a four))) in
+      stay same_public U own far h k lens T T' evenJ evenK e f a mT nT m n cT dT c d four fT fT' fJ z es fs
       (forward sub tail four rest
       (subst (λ (o : Outcome (Shared E D)). FairFrom es o.state o.channels T) stayT restT)
       (subst (λ (o : Outcome (Shared E D)). FairFrom fs o.state o.channels T') stayT' restT')
@@ -323,17 +323,17 @@ module _ {E D : Type 0} {Same : Sameness E D} {s : Shared E D} (same_public_lem 
       (subst (λ (o : Outcome (Shared E D)). FairFrom es o.state o.channels (tapes_with U own far h)) stayJ rest_j))
   forward {mT = mT} {nT = nT} {cT = cT} {dT = dT} (go {e = e} {f = f} {es = es} {fs = fs} {m = m} {n = n} {c = c} {d = d} {out = out} doneJ doneK sub)
       (jobs.more a tail) four rest (jobs.fair fT restT) (jobs.fair fT' restT') opened (jobs.fair fJ rest_j) =
-      let is_t = refusal_t same_public_lem U own far h k lens T T' evenJ evenK e f a mT nT m n cT dT c d four fT fT' fJ in
-      let is_t' = refusal_t' same_public_lem U own far h k lens T T' evenJ evenK e f a mT nT m n cT dT c d four fT fT' fJ in
+      let is_t = refusal_t same_public U own far h k lens T T' evenJ evenK e f a mT nT m n cT dT c d four fT fT' fJ in
+      let is_t' = refusal_t' same_public U own far h k lens T T' evenJ evenK e f a mT nT m n cT dT c d four fT fT' fJ in
       let both = opened_accepted (is_opening (e.act.work mT.public)) (outcome e mT T cT).refusal (outcome f nT T' dT).refusal
       (outcome e mT T cT).value (outcome f nT T' dT).value
       (opened_from es (outcome e mT T cT).state (outcome e mT T cT).channels T)
       (opened_from fs (outcome f nT T' dT).state (outcome f nT T' dT).channels T')
       (is_t ∙ doneJ) (is_t' ∙ doneJ)
       (opened ∙ ap (λ (b : Bool). opens_with b (outcome f nT T' dT).refusal (outcome f nT T' dT).value
-      (opened_from fs (outcome f nT T' dT).state (outcome f nT T' dT).channels T')) (sym (openings_alike same_public_lem a four))) in
-      pass same_public_lem U own far h k lens T T' evenJ evenK e f a mT nT m n cT dT c d four fT fT' fJ doneJ doneK out rest both.1 es fs
+      (opened_from fs (outcome f nT T' dT).state (outcome f nT T' dT).channels T')) (sym (openings_alike same_public a four))) in
+      pass same_public U own far h k lens T T' evenJ evenK e f a mT nT m n cT dT c d four fT fT' fJ doneJ doneK out rest both.1 es fs
       (forward sub tail
-      (next_four same_public_lem U own far h k lens T T' evenJ evenK e f a mT nT m n cT dT c d four fT fT' fJ doneJ doneK out rest both.1)
+      (next_four same_public U own far h k lens T T' evenJ evenK e f a mT nT m n cT dT c d four fT fT' fJ doneJ doneK out rest both.1)
       (rest-after U own far h k lens e f a m n c d (on_level four) doneJ doneK out rest)
       restT restT' both.0 rest_j)

@@ -15,7 +15,7 @@ use Rattle.view.specs.Views.{lacked_by}
 use Rattle.machine.specs.Checks.{Lengths, Tapes, any_bad, any_outside}
 use Rattle.machine.specs.Step.{lengths_of, written}
 use Rattle.machine.proofs.WrittenLaw.{nothing_written}
-use Rattle.act.specs.Acts.{Act, first_of, performed, refusal_by, step}
+use Rattle.act.specs.Acts.{Act, first_nonzero, performed, refusal_by, step}
 use Rattle.act.specs.Jobs.{Outcome, refused}
 use Rattle.act.specs.Lawful.{AlikeWork, Lends, NarrowWork, told_at}
 use Rattle.act.specs.Lawful as lawful
@@ -141,10 +141,10 @@ module _ {E E' D : Type 0} (D' : Type 0) (e : E') where
 
 -- an act is allowed on the first part where the lifted one is
 allowed : {E E' D : Type 0} (earlier : Public (E × E') → Lengths → ℕ) (a : Act E D) (q : Public (E × E')) (len : Lengths)
-    → first_of (earlier q len) (a.refusal (first_public q) len) ≡ 0 → a.refusal (first_public q) len ≡ 0
+    → first_nonzero (earlier q len) (a.refusal (first_public q) len) ≡ 0 → a.refusal (first_public q) len ≡ 0
 allowed earlier a q len = by (earlier q len)
   where
-    by : (n : ℕ) → first_of n (a.refusal (first_public q) len) ≡ 0 → a.refusal (first_public q) len ≡ 0
+    by : (n : ℕ) → first_nonzero n (a.refusal (first_public q) len) ≡ 0 → a.refusal (first_public q) len ≡ 0
     by zero z = z
     by (suc n) z = absurd (omega arith)
 
@@ -178,7 +178,7 @@ module _ {E E' D D' : Type 0} (earlier : Public (E × E') → Lengths → ℕ) (
 
   -- n: the earlier refusal
   earlier_first : (n : ℕ)
-      → whole (refusal_by (first_of n own) (bad_item work left))
+      → whole (refusal_by (first_nonzero n own) (bad_item work left))
       ≡ cond (eqb n 0) (with_second (after m.public) m (part (refusal_by own (bad_item work left)))) (refused n m c)
   earlier_first zero = whole_by_part (refusal_by own (bad_item work left))
   earlier_first (suc n) = rw (ne_eqb (suc n) 0 (λ z. omega arith))
@@ -202,7 +202,7 @@ lift_step E E' D D' earlier after a m T c =
     let q = m.public in
     let w = a.work (first_public q) in
     let n : ℕ = earlier q (lengths_of T c) in
-    ap (λ (bad : Bool). whole earlier after a m T c (refusal_by (first_of n (a.refusal (first_public q) (lengths_of T c))) bad))
+    ap (λ (bad : Bool). whole earlier after a m T c (refusal_by (first_nonzero n (a.refusal (first_public q) (lengths_of T c))) bad))
     (lift_items D' (after q (gates_in w)) w (left_of q T))
     ∙ earlier_first earlier after a m T c n
 
@@ -257,7 +257,7 @@ lift_alike E E' D D' Same Same' earlier after a b alike keeps =
     keeps_b m n same = rw (← (gates m), ← (gates n)) (keeps m n same)
 
     by : {r r' : ℕ} (n : ℕ) → ((a.NumberRefused r → ⊥) → (b.NumberRefused r' → ⊥) → r ≡ r')
-        → (a.NumberRefused (first_of n r) → ⊥) → (b.NumberRefused (first_of n r') → ⊥) → first_of n r ≡ first_of n r'
+        → (a.NumberRefused (first_nonzero n r) → ⊥) → (b.NumberRefused (first_nonzero n r') → ⊥) → first_nonzero n r ≡ first_nonzero n r'
     by zero same x y = same x y
     by (suc n) same x y = refl
 

@@ -171,7 +171,7 @@ module _ {P : Protocol {0}} {E D : Type 0} (S : PerformsActs P E D) where
 
   pub secrecy_of : Secrecy P
   secrecy_of J K alike U own far wo wf =
-      let C = acting-secrecy S.same_public_lem S.start-at S.start_same (job_of J) (job_of K) (jobs_alike alike) U own far wo wf in
+      let C = acting-secrecy S.same_public S.start-at S.start_same (job_of J) (job_of K) (jobs_alike alike) U own far wo wf in
       let there : Hidden → Tapes = λ h. tapes_with U own far h in
       record {
         to = C.to;
@@ -206,4 +206,4 @@ module _ {P : Protocol {0}} {E D : Type 0} (S : PerformsActs P E D) where
       ≡ (change U own far h (job_of J).entries (job_of K).entries (jobs_alike a).entries
       (S.shared P.start) (S.shared P.start) J.channels K.channels).0
   unfolding secrecy_of
-  to_is J K a U own far wo wf h = acts.to_is S.same_public_lem S.start-at S.start_same (job_of J) (job_of K) (jobs_alike a) U own far wo wf h
+  to_is J K a U own far wo wf h = acts.to_is S.same_public S.start-at S.start_same (job_of J) (job_of K) (jobs_alike a) U own far wo wf h

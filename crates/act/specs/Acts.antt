@@ -26,13 +26,13 @@ performed w m left c =
     }
 
 -- of two refusals the first that is met
-abbrev pub first_of : ℕ → ℕ → ℕ
-first_of zero r = r
-first_of (suc n) r = suc n
+abbrev pub first_nonzero : ℕ → ℕ → ℕ
+first_nonzero zero r = r
+first_nonzero (suc n) r = suc n
 
 -- "10 .. out of range" comes after all that is public
 abbrev pub refusal_by : ℕ → Bool → ℕ
-refusal_by r bad = first_of r (cond bad 10 0)
+refusal_by r bad = first_nonzero r (cond bad 10 0)
 
 abbrev pub refusal_of : {E D : Type 0} → Act E D → Public E → Tapes → (Place → List ℕ) → ℕ
 refusal_of a q T c = refusal_by (a.refusal q (lengths_of T c)) (bad_item (a.work q) (left_of q T))

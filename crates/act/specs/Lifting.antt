@@ -4,7 +4,7 @@ use Rattle.std.specs.Prelude.{ℕ, cond, List, [], ◌≡◌, eqb}
 use Rattle.gate.specs.Places.{Place}
 use Rattle.machine.specs.Checks.{Lengths, Tapes}
 use Rattle.machine.specs.Step.{lengths_of}
-use Rattle.act.specs.Acts.{Act, first_of, is_opening, step}
+use Rattle.act.specs.Acts.{Act, first_nonzero, is_opening, step}
 use Rattle.act.specs.Jobs.{Outcome, refused, with_state}
 use Rattle.act.specs.Lawful.{AlikeActs, Lawful, Sameness}
 use Rattle.act.specs.Performs.{KeepsPublic}
@@ -90,7 +90,7 @@ abbrev pub lift_act : {E E' D D' : Type 0} → (Public (E × E') → Lengths →
     → Act E D → Act (E × E') (D × D')
 lift_act earlier after a =
     record {
-      refusal = λ q len. first_of (earlier q len) (a.refusal (first_public q) len);
+      refusal = λ q len. first_nonzero (earlier q len) (a.refusal (first_public q) len);
       work = λ q. let w = a.work (first_public q) in lift_work (after q (gates_in w)) w;
       NumberRefused = a.NumberRefused;
       Small = λ m. a.Small (first_part m);

@@ -25,7 +25,7 @@ pub record PerformsActs (P : Protocol {0}) (E D : Type 0) : Type 1 where
   pub shared : P.State → Shared E D
   pub Good : P.State → Type 0
   pub Same : Sameness E D
-  pub same_public_lem : KeepsPublic Same
+  pub same_public : KeepsPublic Same
   -- what is decided beforehand, whatever the tapes: which act comes next of several that wait, say
   pub Plan : Type 0
   pub plan : P.State → Plan

@@ -10,7 +10,7 @@ use Rattle.machine.specs.declared.orders.Order.{Order}
 use Rattle.machine.specs.declared.orders.Order.TheVariants.{Add, Compose, Convert, Deal, Decompose, Multiply, Open, Scale, Shift}
 use Rattle.machine.specs.declared.registers.Machine.{Machine}
 use Rattle.machine.specs.declared.answers.Refusal.{Refusal}
-use Rattle.order.specs.Answers.{first_of, number_of, verdict_of}
+use Rattle.order.specs.Answers.{first_nonzero, number_of, verdict_of}
 use Rattle.order.specs.Attempts.{begin_checks, record_refusal}
 use Rattle.order.specs.declared.answers.Verdict.{Verdict}
 use Rattle.order.specs.declared.answers.Verdict.TheVariants.{Because, Fine}
@@ -21,14 +21,14 @@ abbrev pub refusing : List Check → Bool
 refusing [] = true
 refusing (c ∷ cs) = cond (eqb c.refusal 0) false (refusing cs)
 
-pub joined : (ks ls : List Check) → T (refusing ks) → first_met (ks ++ ls) ≡ first_of (first_met ks) (first_met ls)
+pub joined : (ks ls : List Check) → T (refusing ks) → first_met (ks ++ ls) ≡ first_nonzero (first_met ks) (first_met ls)
 unfolding first_met
 joined [] ls h = refl
 joined (k ∷ ks) ls h = go k.met (eqb k.refusal 0) refl h (joined ks ls)
   where
     go : (b z : Bool) → eqb k.refusal 0 ≡ z → T (cond z false (refusing ks))
-        → (T (refusing ks) → first_met (ks ++ ls) ≡ first_of (first_met ks) (first_met ls))
-        → cond b k.refusal (first_met (ks ++ ls)) ≡ first_of (cond b k.refusal (first_met ks)) (first_met ls)
+        → (T (refusing ks) → first_met (ks ++ ls) ≡ first_nonzero (first_met ks) (first_met ls))
+        → cond b k.refusal (first_met (ks ++ ls)) ≡ first_nonzero (cond b k.refusal (first_met ks)) (first_met ls)
     go true false e h rest = rw e
     go false false e h rest = rest h
     go true true e h rest = elim h [ ]
@@ -67,7 +67,7 @@ begin_refuses m (Open x) = tt
 
 module _ (m : Machine) (o : Order) where
   -- then the rest
-  pub record_then : (rest : List Check) → first_met ((begin_checks (sound m) (named o) ++ kind_checks o (public_of m)) ++ rest) ≡ first_of (record_refusal o m) (first_met rest)
+  pub record_then : (rest : List Check) → first_met ((begin_checks (sound m) (named o) ++ kind_checks o (public_of m)) ++ rest) ≡ first_nonzero (record_refusal o m) (first_met rest)
   unfolding record_refusal
   record_then rest = joined (begin_checks (sound m) (named o) ++ kind_checks o (public_of m)) rest (begin_refuses m o)
 
@@ -78,8 +78,8 @@ begin_twice sure d x e =
     e ∙ ap (λ (b : Bool). first_met (check (not sure) 1 ∷ check (ltb 15 d || b) 2 ∷ [])) (or_self_left (ltb 15 x) false)
 
 -- one list, then another
-pub then-joined : (ks ls : List Check) → T (refusing ks) → {u v w : ℕ} → u ≡ first_of v w → v ≡ first_met ks → w ≡ first_met ls → u ≡ first_met (ks ++ ls)
-then-joined ks ls h e f g = e ∙ ap₂ first_of f g ∙ sym (joined ks ls h)
+pub then-joined : (ks ls : List Check) → T (refusing ks) → {u v w : ℕ} → u ≡ first_nonzero v w → v ≡ first_met ks → w ≡ first_met ls → u ≡ first_met (ks ++ ls)
+then-joined ks ls h e f g = e ∙ ap₂ first_nonzero f g ∙ sym (joined ks ls h)
 
 -- where the first of them has given a verdict
 module _ (ks ls : List Check) (h : T (refusing ks)) {v : Verdict} (first : verdict_of v ≡ first_met ks) where

@@ -17,7 +17,7 @@ use Rattle.machine.specs.declared.answers.Refusal.{Refusal}
 use Rattle.machine.specs.declared.orders.Order.{Order}
 use Rattle.machine.specs.declared.registers.Machine.{Machine}
 use Rattle.machine.specs.declared.registers.Register.{Register}
-use Rattle.order.specs.Answers.{first_of, number_of, verdict_of}
+use Rattle.order.specs.Answers.{first_nonzero, number_of, verdict_of}
 use Rattle.order.specs.Attempts.{Prepares, attempted, begin_checks, record_refusal, length_verdict, masks_left, ran, tried}
 use Rattle.order.specs.Tasks.{Fit, Seated, circuit_of, kind_left, other_of, source_of}
 use Rattle.order.specs.declared.answers.Verdict.{Verdict}
@@ -29,7 +29,7 @@ use Rattle.order.proofs.VerdictLaw.{first_refusal, numbered}
 
 -- a verdict that is none leaves the last check to decide
 settled : (A : Type 0) (v : ℕ) (bad : Bool) (good : A) (because : ℕ → A)
-    → cond (eqb (first_of v (cond bad 10 0)) 0) good (because (first_of v (cond bad 10 0)))
+    → cond (eqb (first_nonzero v (cond bad 10 0)) 0) good (because (first_nonzero v (cond bad 10 0)))
     ≡ cond (eqb v 0) (cond bad (because 10) good) (because v)
 settled A v bad good because = go (eqb v 0) refl
   where
@@ -97,7 +97,7 @@ module _ (m : Machine) (d x y : ℕ) where
       ∙ ap (λ (q : Outcome). cond (eqb first 0) (cond bad (refused 10 m c) q) (refused first m c)) (ran_is t (left_of p (tapes D T)) c left right)
 
 module _ (o : Order) (m : Machine) where
-  checks_split : (T : Tapes) (c : Place → List ℕ) → first_met (checks o m T c) ≡ first_of (record_refusal o m) (first_met (later_checks (work_of o (public_of m)) m T c))
+  checks_split : (T : Tapes) (c : Place → List ℕ) → first_met (checks o m T c) ≡ first_nonzero (record_refusal o m) (first_met (later_checks (work_of o (public_of m)) m T c))
   unfolding checks public_checks
   checks_split T c =
       ap (λ (l : List Check). first_met (begin_checks (sound m) (named o) ++ l))
@@ -109,7 +109,7 @@ module _ (o : Order) (m : Machine) where
   step-refused w e T c =
       let later = first_met (later_checks (work_of o (public_of m)) m T c) in
       let is : first_met (checks o m T c) ≡ number_of w
-      = checks_split T c ∙ ap (λ (n : ℕ). first_of n later) e ∙ sym (first_refusal w later) in
+      = checks_split T c ∙ ap (λ (n : ℕ). first_nonzero n later) e ∙ sym (first_refusal w later) in
       rw (is, numbered w)
 
   step-later : record_refusal o m ≡ 0 → (T : Tapes) (c : Place → List ℕ) → step o m T c ≡ later (work_of o (public_of m)) m T c

@@ -9,19 +9,19 @@ use lib.Dec.{eqb, ltb}
 use Rattle.machine.specs.Checks.{Check, check, first_met}
 use Rattle.machine.specs.declared.answers.Refusal.{Refusal}
 use Rattle.machine.specs.declared.answers.Refusal.TheVariants.{BadItem, BadLength, ChannelShort, EmptySource, NoRegister, NoRing, NotSixtyFour, OutOfRange, RingsDiffer, TapeShort, Unsound, WrongKind}
-use Rattle.order.specs.Answers.{first_of, number_of}
+use Rattle.order.specs.Answers.{first_nonzero, number_of}
 
 pub one-check : {v : ℕ} (n : ℕ) {b t : Bool} → v ≡ cond b n 0 → b ≡ t → v ≡ first_met (check t n ∷ [])
 unfolding first_met
 one-check n e h = e ∙ ap (λ (b : Bool). cond b n 0) h
 
-first-check : (b : Bool) (n w : ℕ) → eqb n 0 ≡ false → first_of (cond b n 0) w ≡ cond b n w
+first-check : (b : Bool) (n w : ℕ) → eqb n 0 ≡ false → first_nonzero (cond b n 0) w ≡ cond b n w
 first-check true n w h = rw h
 first-check false n w h = refl
 
 -- a check that refuses with n, and then others
 pub then-check : {v a w : ℕ} (n : ℕ) {b t : Bool} (cs : List Check)
-    → v ≡ first_of a w
+    → v ≡ first_nonzero a w
     → a ≡ cond b n 0
     → b ≡ t
     → eqb n 0 ≡ false
@@ -29,7 +29,7 @@ pub then-check : {v a w : ℕ} (n : ℕ) {b t : Bool} (cs : List Check)
     → v ≡ first_met (check t n ∷ cs)
 unfolding first_met
 then-check n {t = t} cs e f h k g =
-    e ∙ ap₂ first_of (f ∙ ap (λ (b : Bool). cond b n 0) h) g ∙ first-check t n _ k
+    e ∙ ap₂ first_nonzero (f ∙ ap (λ (b : Bool). cond b n 0) h) g ∙ first-check t n _ k
 
 -- no refusal has number 0
 pub numbered : (w : Refusal) → eqb (number_of w) 0 ≡ false
@@ -46,7 +46,7 @@ numbered ChannelShort = refl
 numbered BadItem = refl
 numbered NotSixtyFour = refl
 
-pub first_refusal : (w : Refusal) (n : ℕ) → number_of w ≡ first_of (number_of w) n
+pub first_refusal : (w : Refusal) (n : ℕ) → number_of w ≡ first_nonzero (number_of w) n
 first_refusal w n = rw (numbered w)
 
 -- what is left after a position

@@ -45,8 +45,8 @@ verdict_of Fine = 0
 verdict_of (Because w) = number_of w
 
 -- the first of two verdicts that refuses
-abbrev pub first_of : ℕ → ℕ → ℕ
-first_of v w = cond (eqb v 0) w v
+abbrev pub first_nonzero : ℕ → ℕ → ℕ
+first_nonzero v w = cond (eqb v 0) w v
 
 -- the outcome of an order that leaves these channels
 abbrev pub reported : Outcome → (Place → List ℕ) → defined.Outcome

@@ -1,6 +1,6 @@
 // Verdicts and outcomes, and the answers' numbers.
 ghost use Rattle.std.specs.Prelude.{cond, ◌≡◌};
-ghost use Rattle.order.specs.Answers.{first_of, gates_of, number_of, refusal_of, value_of, verdict_of};
+ghost use Rattle.order.specs.Answers.{first_nonzero, gates_of, number_of, refusal_of, value_of, verdict_of};
 
 use machine::{Answer, Machine, Refusal};
 
@@ -81,7 +81,7 @@ pub fn refuse_if(met: bool, w: Refusal) -> Verdict
 impl Verdict {
     // This verdict, or where it is fine the next.
     pub fn then(self, next: Verdict) -> Verdict
-        ensures { verdict_of result ≡ first_of (verdict_of self) (verdict_of next) }
+        ensures { verdict_of result ≡ first_nonzero (verdict_of self) (verdict_of next) }
     {
         match self {
             Verdict::Fine => next,

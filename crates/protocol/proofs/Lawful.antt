@@ -73,8 +73,8 @@ pub record SameData (s t : Shared Kinds Column) : Type 0 where
   pub is_right : shared_of right ≡ t
   pub same : Same left right
 
-pub same_public_lem : (s t : Shared Kinds Column) → SameData s t → s.public ≡ t.public
-same_public_lem s t i =
+pub same_public : (s t : Shared Kinds Column) → SameData s t → s.public ≡ t.public
+same_public s t i =
     sym (ap (λ (x : Shared Kinds Column). x.public) i.is_left)
     ∙ ap public_for i.same.public
     ∙ ap (λ (x : Shared Kinds Column). x.public) i.is_right

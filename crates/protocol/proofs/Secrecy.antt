@@ -19,7 +19,7 @@ use Rattle.outcome.proofs.Theorems.{keeps_sound}
 use Rattle.protocol.specs.Acts.{Column, Kinds, act_of, public_from, shared_of}
 use Rattle.protocol.specs.Orders.{OrdersSecret, orders, seen}
 use Rattle.protocol.specs.Same.{Good}
-use Rattle.protocol.proofs.Lawful.{SameData, alike_acts, same_public_lem, small_is}
+use Rattle.protocol.proofs.Lawful.{SameData, alike_acts, same_public, small_is}
 use Rattle.protocol.proofs.OrderLaw.{opening_is}
 use Rattle.protocol.proofs.StepLaw.{step_is}
 
@@ -49,7 +49,7 @@ orders_perform_acts =
       shared = shared_of;
       Good = λ m. sound m ≡ true;
       Same = SameData;
-      same_public_lem = same_public_lem;
+      same_public = same_public;
       Plan = Unit {0};
       plan = λ m. tt;
       onward = λ o σ. σ;
