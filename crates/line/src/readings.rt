@@ -27,6 +27,9 @@ pub struct Taken {
     pub at: usize,
 }
 
+// Digits that may stand before one of the same field.
+const MOST_BEFORE: u64 = 19;
+
 // 2^64 is ten times this, and 6.
 const MOST_TENTHS: u64 = 1_844_674_407_370_955_161;
 
@@ -100,7 +103,7 @@ impl Reading {
         requires { d < 10 }
         ensures { result ≡ digit_on self d }
     {
-        if 19 < self.digits {
+        if MOST_BEFORE < self.digits {
             return Reading::spoilt();
         }
         if MOST_TENTHS < self.value {

@@ -32,6 +32,9 @@ pub struct Machine {
 // 01: "each position is at most 1,000,000", and so is each lent run's length.
 pub const MILLION: u64 = 1_000_000;
 
+// 01: "1 to 59 bits".
+const MOST_BITS: u64 = 59;
+
 impl Register {
     // Each sub-share in range, and 1 to 59 bits.
     pub fn is_sound(self) -> bool
@@ -134,7 +137,7 @@ fn in_range(m: u64, x: Sharing) -> bool
 fn bits_sound(l: u64, x: Sharing) -> bool
     ensures { result ≡ sound_register (Register.Bits l x) }
 {
-    if 59 < l {
+    if MOST_BITS < l {
         return false;
     }
     (1 <= l) & in_range(1 << l, x)

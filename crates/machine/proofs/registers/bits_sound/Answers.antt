@@ -12,10 +12,10 @@ both_false : (b : Bool) → false ≡ b && false
 both_false false = refl
 both_false true = refl
 
-pub returns-then-l-gt59 : goal.returns-then-l-gt59
+pub returns-then-l-gt-MOST_BITS : goal.returns-then-l-gt-MOST_BITS
 unfolding sound_register
-returns-then-l-gt59 c = rw (lt-leb c.args.l 59 c.if-l-gt59.true) (both_false (leb 1 c.args.l))
+returns-then-l-gt-MOST_BITS c = rw (lt-leb c.args.l 59 c.if-l-gt-MOST_BITS.true) (both_false (leb 1 c.args.l))
 
 pub returns : goal.returns
 unfolding sound_register
-returns c = rw (c.in_range.ensures, le-leb c.args.l 59 c.if-l-gt59.false, shifted_one c.args.l (omega arith))
+returns c = rw (c.in_range.ensures, le-leb c.args.l 59 c.if-l-gt-MOST_BITS.false, shifted_one c.args.l (omega arith))

@@ -9,8 +9,8 @@ fits : (c : goal.After-struct_known-5-1)
     → let a = c.args in a.self.value * 10 + a.d < 2 ^ 64
 fits c = tenth_fits _ _ (omega arith) c.if-self-d.false c.requires
 
-pub returns-then-self-gt19 : goal.returns-then-self-gt19
-returns-then-self-gt19 c =
+pub returns-then-self-gt-MOST_BEFORE : goal.returns-then-self-gt-MOST_BEFORE
+returns-then-self-gt-MOST_BEFORE c =
     c.spoilt.ensures ∙ sym (too_many _ _ (omega arith))
 
 pub returns-then-self-gt-MOST_TENTHS : goal.returns-then-self-gt-MOST_TENTHS
