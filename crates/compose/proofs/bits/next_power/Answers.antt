@@ -5,10 +5,6 @@ use Rattle.ring.proofs.CongLaw.{cong_refl}
 use Rattle.ring.proofs.Theorems.{whole_rotation}
 use Rattle.compose.proofs.bits.next_power.Goals as goal
 
-pub overflow_add-j : goal.overflow_add-j
-overflow_add-j c =
-    omega arith
-
 pub returns-then-j-e : goal.returns-then-j-e
 returns-then-j-e c =
     record { is = rw c.if-j-e.true (whole_rotation c.args.e); below = omega arith }

@@ -1,4 +1,3 @@
-use native.Mathlib.Omega.{arith}
 use Rattle.gate.proofs.PlaceLaw.{each}
 use Rattle.compose.proofs.bits.reduce_sums.Goals as goal
 
@@ -8,15 +7,3 @@ returns c =
       is = each _ c.reduce_once-s0.ensures.is c.reduce_once-s1.ensures.is c.reduce_once-s2.ensures.is;
       below = record { zero = c.reduce_once-s0.ensures.below; one = c.reduce_once-s1.ensures.below; two = c.reduce_once-s2.ensures.below };
     }
-
-pub reduce_once-s0-requires : goal.reduce_once-s0-requires
-reduce_once-s0-requires c =
-    omega (arith, c.requires.sized)
-
-pub reduce_once-s1-requires : goal.reduce_once-s1-requires
-reduce_once-s1-requires c =
-    omega (arith, c.requires.sized)
-
-pub reduce_once-s2-requires : goal.reduce_once-s2-requires
-reduce_once-s2-requires c =
-    omega (arith, c.requires.sized)

@@ -1,19 +1,8 @@
 -- The bits are shared as the majority wants them; the last share of the carry is the third bit's and the word's.
 use mathlib.Core.Path.{refl}
-use native.Mathlib.Omega.{arith}
 use lib.Bits.{xor_lt}
-use Rattle.circuit.proofs.TurnLaw.{items_in}
 use Rattle.compose.proofs.QuotientLaw.{carries_of}
 use Rattle.compose.proofs.quotients.low_carry.Goals as goal
-
-pub bit_gate-z-requires : goal.bit_gate-z-requires
-bit_gate-z-requires c =
-    record {
-      left = omega arith;
-      right = omega arith;
-      items = items_in (omega arith) c.items_at-t.ensures c.requires.items;
-      room = omega (arith, c.requires.room);
-    }
 
 pub returns : goal.returns
 returns c =

@@ -9,11 +9,6 @@ use Rattle.compose.proofs.quotients.negated.Goals as goal
 masked : (n : ℕ) → bit_and n 3 ≡ n % 4
 masked n = and_mask n 2
 
-pub overflow_sub-result : goal.overflow_sub-result
-unfolding diff
-overflow_sub-result c =
-    omega (arith, masked c.args.x)
-
 pub returns : goal.returns
 unfolding diff
 returns c =

@@ -1,18 +1,11 @@
 -- The gate for z, then the half adders on what is left from index 1 on.
 use Prim.Native.Nat.{◌+◌, ◌-◌, ◌≤◌}
-use mathlib.Core.Path.{refl, ◌∙◌}
+use mathlib.Core.Path.{refl}
 use native.Mathlib.Omega.{arith}
 use Rattle.circuit.proofs.LentLaw.{AsLong, below_less, below_on, long_less, long_on, long_same, ran-three}
-use Rattle.circuit.proofs.TurnLaw.{items_in, turn-ran}
+use Rattle.circuit.proofs.TurnLaw.{turn-ran}
 use Rattle.decompose.proofs.StageLaw.{ended_here}
 use Rattle.decompose.proofs.order.increment.Goals as goal
-
-pub zero_turn-first-requires : goal.zero_turn-first-requires
-zero_turn-first-requires c =
-    record {
-      items = items_in c.requires.count.0 c.items_at-t.ensures c.requires.items;
-      room = long_less c.requires.count.0 c.requires.channels;
-    }
 
 pub raising_stage-raising-requires : goal.raising_stage-raising-requires
 raising_stage-raising-requires c =
@@ -38,47 +31,3 @@ returns c =
           c.finish.ensures.is e;
       below = c.finish.ensures.below;
     }
-
-pub items_at-t-requires : goal.items_at-t-requires
-items_at-t-requires c =
-    long_less c.requires.count.0 c.requires.masks
-
-pub slice_bounds-raising_stage-count-4 : goal.slice_bounds-raising_stage-count-4
-slice_bounds-raising_stage-count-4 c =
-    omega (arith, c.requires)
-
-pub slice_bounds-raising_stage-start-4 : goal.slice_bounds-raising_stage-start-4
-slice_bounds-raising_stage-start-4 c =
-    omega (arith, c.requires)
-
-pub slice_bounds-raising_stage-count-5 : goal.slice_bounds-raising_stage-count-5
-slice_bounds-raising_stage-count-5 c =
-    omega (arith, c.requires)
-
-pub slice_bounds-raising_stage-start-5 : goal.slice_bounds-raising_stage-start-5
-slice_bounds-raising_stage-start-5 c =
-    omega (arith, c.requires)
-
-pub slice_bounds-raising_stage-count-6 : goal.slice_bounds-raising_stage-count-6
-slice_bounds-raising_stage-count-6 c =
-    omega (arith, c.requires)
-
-pub slice_bounds-raising_stage-start-6 : goal.slice_bounds-raising_stage-start-6
-slice_bounds-raising_stage-start-6 c =
-    omega (arith, c.requires)
-
-pub finish-requires : goal.finish-requires
-finish-requires c =
-    omega (arith, c.requires.count)
-
-pub shape_of-c0 : goal.shape_of-c0
-shape_of-c0 c =
-    c.c0-2-1.given.1 ∙ c.c0-1.given
-
-pub shape_of-c1 : goal.shape_of-c1
-shape_of-c1 c =
-    c.c1-2-1.given.1 ∙ c.c1-1.given
-
-pub shape_of-c2 : goal.shape_of-c2
-shape_of-c2 c =
-    c.c2-2-1.given.1 ∙ c.c2-1.given

@@ -1,12 +1,10 @@
 -- Invariant: j carry gates ran, and the carries have j + 1 bits.
-use Prim.Native.Nat.{◌+◌, ◌≤◌}
 use mathlib.Core.Path.{ap, sym, ◌≡◌, refl, ◌∙◌}
 use native.Mathlib.Omega.{arith}
 use Rattle.gate.specs.declared.sharing.Sharing.{Sharing}
 use Rattle.circuit.specs.Decompose.{carry_gate}
 use Rattle.circuit.specs.Sharings.{zeros}
-use Rattle.circuit.proofs.LentLaw.{long_less}
-use Rattle.circuit.proofs.TurnLaw.{items_in, no_gates, one_more}
+use Rattle.circuit.proofs.TurnLaw.{no_gates, one_more}
 use Rattle.decompose.specs.Words.{digits_of}
 use Rattle.decompose.proofs.StageLaw.{room_next}
 use Rattle.decompose.proofs.stages.carry_stage.Goals as goal
@@ -16,22 +14,6 @@ loop-j-init c = (
   record { within = omega arith; same = record { zero = refl; one = refl; two = refl }; words = rw c.zeros-carries.ensures (omega arith) },
   no_gates carry_gate (ap (λ (w : Sharing). digits_of c.args.x w zeros zeros) (sym c.zeros-carries.ensures)),
 )
-
-pub items_at-t-requires : goal.items_at-t-requires
-items_at-t-requires c =
-    let more : c.loop-j.j + 1 ≤ c.args.n = omega arith in
-    long_less more c.requires.masks
-
-pub carry_turn-carries-requires : goal.carry_turn-carries-requires
-carry_turn-carries-requires c =
-    let head = c.loop-j in
-    let below = c.loop-j-test.true in
-    record {
-      bit = omega (arith, c.requires.count);
-      words = head.invariant.0.words;
-      items = items_in below c.items_at-t.ensures c.requires.items;
-      room = room_next head.invariant.0 c.requires.channels (omega arith);
-    }
 
 pub loop-j-preserved : goal.loop-j-preserved
 loop-j-preserved c =
@@ -54,7 +36,3 @@ pub returns : goal.returns
 returns c =
     let same : c.loop-j.j ≡ c.args.n = omega arith in
     rw same at c.loop-j.invariant.1
-
-pub loop-j-smaller : goal.loop-j-smaller
-loop-j-smaller c =
-    omega arith

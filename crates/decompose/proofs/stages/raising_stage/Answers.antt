@@ -1,10 +1,8 @@
 -- Invariant: j half adders ran, whatever words the total is made of, and the carries have j + 1 bits, the last of which are at hand.
-use Prim.Native.Nat.{◌+◌, ◌<◌, ◌≤◌}
 use mathlib.Core.Path.{◌≡◌, refl, ◌∙◌}
 use native.Mathlib.Omega.{arith}
 use Rattle.circuit.specs.Decompose.{raising_gate}
-use Rattle.circuit.proofs.LentLaw.{long_less}
-use Rattle.circuit.proofs.TurnLaw.{items_in, no_gates, one_more}
+use Rattle.circuit.proofs.TurnLaw.{no_gates, one_more}
 use Rattle.decompose.proofs.StageLaw.{first-last, room_next, stored_last}
 use Rattle.decompose.proofs.stages.raising_stage.Goals as goal
 
@@ -14,28 +12,6 @@ loop-j-init c = (
   first-last c.requires.first,
   λ x carries running e. no_gates raising_gate refl,
 )
-
-pub items_at-t-requires : goal.items_at-t-requires
-items_at-t-requires c =
-    let more : c.loop-j.j + 1 ≤ c.args.n = omega arith in
-    long_less more c.requires.masks
-
-pub raising_turn-last-requires : goal.raising_turn-last-requires
-raising_turn-last-requires c =
-    let head = c.loop-j in
-    let below = c.loop-j-test.true in
-    record {
-      bit = omega (arith, c.requires.count);
-      last = head.invariant.1.bits;
-      items = items_in below c.items_at-t.ensures c.requires.items;
-      room = room_next head.invariant.0 c.requires.channels (omega arith);
-    }
-
-pub store-raising-requires : goal.store-raising-requires
-store-raising-requires c =
-    let few : (c.loop-j.j < c.args.n) × (c.args.n < 62) = (c.loop-j-test.true, c.requires.count) in
-    let head = c.loop-j in
-    record { shift = omega (arith, few); words = head.invariant.0.words; bits = c.raising_turn-last.ensures.below }
 
 pub loop-j-preserved : goal.loop-j-preserved
 loop-j-preserved c =
@@ -61,18 +37,3 @@ pub returns : goal.returns
 returns c =
     let same : c.loop-j.j ≡ c.args.n = omega arith in
     rw same at c.loop-j.invariant.2
-
-pub overflow_add-j : goal.overflow_add-j
-overflow_add-j c =
-    let few : (c.loop-j.j < c.args.n) × (c.args.n < 62) = (c.loop-j-test.true, c.requires.count) in
-    omega (arith, few)
-
-pub overflow_add-j-in-loop-j : goal.overflow_add-j-in-loop-j
-overflow_add-j-in-loop-j c =
-    let few : (c.loop-j.j < c.args.n) × (c.args.n < 62) = (c.loop-j-test.true, c.requires.count) in
-    omega (arith, few)
-
-pub loop-j-smaller : goal.loop-j-smaller
-loop-j-smaller c =
-    let few : (c.loop-j.j < c.args.n) × (c.args.n < 62) = (c.loop-j-test.true, c.requires.count) in
-    omega (arith, few)
