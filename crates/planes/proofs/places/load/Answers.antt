@@ -12,6 +12,39 @@ use Rattle.planes.proofs.PlaceLaw.{loaded, loaded_none, none_0, none_1, none_2}
 use Rattle.planes.proofs.RowLaw.{width_lt}
 use Rattle.planes.proofs.places.load.Goals as goal
 
+pub planes_of-requires : goal.planes_of-requires
+planes_of-requires c =
+    record {
+      words = c.requires.lengths.0;
+      room = search rules;
+      source = record { at = c.requires.source.zero };
+      empty = none_0 c.requires.empty;
+    }
+
+pub planes_of-requires-2 : goal.planes_of-requires-2
+planes_of-requires-2 c =
+    let first : length c.planes_of.new.y ≡ 64 = part_long 0 64 _ _ refl c.requires.room (omega arith) c.planes_of.auto.y in
+    let behind = behind_first c.args.x.now c.planes_of.new.y c.requires.room first 64 (omega arith) in
+    record {
+      words = c.requires.lengths.1;
+      room = search rules;
+      source = record { at = c.requires.source.one };
+      empty = rw behind (none_1 c.requires.empty);
+    }
+
+pub planes_of-requires-3 : goal.planes_of-requires-3
+planes_of-requires-3 c =
+    let first : length c.planes_of.new.y ≡ 64 = part_long 0 64 _ _ refl c.requires.room (omega arith) c.planes_of.auto.y in
+    let once = first_put c.args.x.now c.planes_of.new.y c.requires.room first in
+    let second : length c.planes_of-2.new.y ≡ 64 = part_long 64 128 _ _ refl once (omega arith) c.planes_of-2.auto.y in
+    let behind = behind_second c.args.x.now c.planes_of.new.y c.planes_of-2.new.y c.requires.room first second in
+    record {
+      words = c.requires.lengths.2;
+      room = search rules;
+      source = record { at = c.requires.source.two };
+      empty = rw behind (none_2 c.requires.empty);
+    }
+
 pub returns : goal.returns
 returns c =
     let a = c.args in

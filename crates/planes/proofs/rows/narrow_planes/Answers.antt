@@ -9,6 +9,12 @@ use Rattle.planes.specs.Planes.{four_times_at}
 use Rattle.planes.proofs.RowLaw.{halves_are, none_paired, pair_shifted, paired_more, narrow_lt}
 use Rattle.planes.proofs.rows.narrow_planes.Goals as goal
 
+pub four_times-low-requires : goal.four_times-low-requires
+four_times-low-requires c = c.requires.source.at c.loop-k.k (omega arith)
+
+pub four_times-high-requires : goal.four_times-high-requires
+four_times-high-requires c = c.requires.source.at (32 + c.loop-k.k) (omega arith)
+
 -- both halves are below 2^32
 smalls : (c : goal.After-four_times-high) → (c.four_times-low.result < 2 ^ 32) × (c.four_times-high.result < 2 ^ 32)
 smalls c =
@@ -16,6 +22,9 @@ smalls c =
     = λ k. narrow_lt c.args.r c.args.a.now k c.requires.width in
     let k = c.loop-k.k in
     (rw c.four_times-low.ensures.is (below k), rw c.four_times-high.ensures.is (below (32 + k)))
+
+pub overflow_add-y : goal.overflow_add-y
+overflow_add-y c = let small = smalls c in omega (arith, small.0, small.1, pair_shifted small.1)
 
 pub loop-k-preserved : goal.loop-k-preserved
 loop-k-preserved c =
