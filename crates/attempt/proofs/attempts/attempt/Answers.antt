@@ -4,10 +4,6 @@ use Rattle.order.specs.Attempts.{attempted}
 use Rattle.attempt.proofs.AttemptLaw.{ready_gates, ready_local}
 use Rattle.attempt.proofs.attempts.attempt.Goals as goal
 
--- some record is ready
-pub perform-requires : goal.perform-requires
-perform-requires c = record { fit = (ready_gates c.requires.0 c.args.d c.in-Gates.is c.requires.1).1 }
-
 pub returns-in-Because : goal.returns-in-Because
 unfolding attempted
 returns-in-Because c = λ m of ready. rw c.in-Because.is (record { fits = tt; is = refl })

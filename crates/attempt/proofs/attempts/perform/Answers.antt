@@ -1,14 +1,9 @@
 -- Lengths that are refused, and those that give the gates what they take.
 use Prim.Native.Nat.{◌+◌}
-use native.Mathlib.Omega.{arith}
 use Rattle.gate.specs.Places.{three}
 use Rattle.order.proofs.CostLaw.{costs}
 use Rattle.attempt.proofs.AttemptLaw.{enough, long_enough, short}
 use Rattle.attempt.proofs.attempts.perform.Goals as goal
-
-pub overflow_add-k : goal.overflow_add-k
-overflow_add-k c =
-    omega (arith, (costs c.args.t c.requires.fit c.cost-k.ensures).few)
 
 pub returns-in-Because : goal.returns-in-Because
 returns-in-Because c = λ m of seat.

@@ -1,6 +1,5 @@
 -- The parts of the runs from the record's positions on: their items, and then the gates.
 use Prim.Native.Nat.{ℕ, ◌+◌}
-use native.Mathlib.Omega.{arith}
 use Rattle.circuit.proofs.LentLaw.{long_on}
 use Rattle.order.proofs.CostLaw.{costs}
 use Rattle.attempt.proofs.AttemptLaw.{bad_tried, gates-tried}
@@ -33,7 +32,3 @@ returns c = λ m of seat.
     gates-tried a.t a.d (costs a.t c.requires.fit c.requires.cost) of a.m0.now a.m1.now a.m2.now a.c0.now a.c1.now a.c2.now
     c.bad_items.ensures c.if-bad_items.false seat
     c.words-z.ensures c.left.ensures
-
-pub overflow_add-gates : goal.overflow_add-gates
-overflow_add-gates c =
-    omega (arith, (costs c.args.t c.requires.fit c.requires.cost).few)

@@ -21,7 +21,3 @@ returns c =
 pub loop-k-init : goal.loop-k-init
 loop-k-init c =
     (omega arith, rw sub-zero)
-
-pub loop-k-smaller : goal.loop-k-smaller
-loop-k-smaller c =
-    omega arith

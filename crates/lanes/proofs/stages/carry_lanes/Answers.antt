@@ -32,9 +32,6 @@ loop-j-init c =
           (sym (ap (λ (p : List ℕ). columns 1 p k) first ∙ no_planes a.q.now k c.requires.carries))),
     )
 
-pub overflow_add-j : goal.overflow_add-j
-overflow_add-j c = omega (arith, c.loop-j-test.true, c.loop-j.invariant.0.few)
-
 pub loop-j-preserved : goal.loop-j-preserved
 loop-j-preserved c =
     let head = c.loop-j in

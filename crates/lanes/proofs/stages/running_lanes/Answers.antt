@@ -23,21 +23,6 @@ loop-i-init c = (
   (λ q begun. summing_none _ _ c.zeros-last.ensures begun),
 )
 
-pub overflow_add-i-in-loop-i-2 : goal.overflow_add-i-in-loop-i-2
-overflow_add-i-in-loop-i-2 c = omega (arith, c.loop-i-test.true, c.loop-i.invariant.0.few)
-
-pub total_in-requires-in-loop-i : goal.total_in-requires-in-loop-i
-total_in-requires-in-loop-i c =
-    let inv = c.loop-i.invariant.0 in
-    let inside = c.loop-i-test.true in
-    record { from = omega (arith, inside, inv.few, c.requires.planes); to = omega (arith, inside, inv.few, inv.planes) }
-
-pub overflow_add-i : goal.overflow_add-i
-overflow_add-i c = omega (arith, c.loop-i-test.true, c.loop-i.invariant.0.few)
-
-pub loop-i-smaller : goal.loop-i-smaller
-loop-i-smaller c = omega (arith, c.loop-i-test.true)
-
 pub loop-i-preserved : goal.loop-i-preserved
 loop-i-preserved c =
     let head = c.loop-i in

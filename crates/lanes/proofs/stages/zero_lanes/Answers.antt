@@ -1,9 +1,6 @@
 use Rattle.lanes.proofs.StageLaw.{zeroed}
 use Rattle.lanes.proofs.stages.zero_lanes.Goals as goal
 
-pub send_at-requires : goal.send_at-requires
-send_at-requires c = c.requires.channels
-
 pub returns : goal.returns
 returns c =
     let a = c.args in

@@ -9,12 +9,6 @@ use Rattle.planes.specs.Planes.{four_times_at}
 use Rattle.planes.proofs.RowLaw.{halves_are, none_paired, pair_shifted, paired_more, narrow_lt}
 use Rattle.planes.proofs.rows.narrow_planes.Goals as goal
 
-pub four_times-low-requires : goal.four_times-low-requires
-four_times-low-requires c = c.requires.source.at c.loop-k.k (omega arith)
-
-pub four_times-high-requires : goal.four_times-high-requires
-four_times-high-requires c = c.requires.source.at (32 + c.loop-k.k) (omega arith)
-
 -- both halves are below 2^32
 smalls : (c : goal.After-four_times-high) → (c.four_times-low.result < 2 ^ 32) × (c.four_times-high.result < 2 ^ 32)
 smalls c =

@@ -19,7 +19,3 @@ returns c =
 pub loop-k-init : goal.loop-k-init
 loop-k-init c =
     (omega arith, c.requires.to, none_split _ _)
-
-pub bounds-z-k-in-loop-k : goal.bounds-z-k-in-loop-k
-bounds-z-k-in-loop-k c =
-    simp length-set (omega arith)

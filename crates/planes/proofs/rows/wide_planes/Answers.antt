@@ -8,9 +8,6 @@ use Rattle.planes.specs.Planes.{four_times_at}
 use Rattle.planes.proofs.RowLaw.{four_times_lt, planes_are, row_more}
 use Rattle.planes.proofs.rows.wide_planes.Goals as goal
 
-pub four_times-requires : goal.four_times-requires
-four_times-requires c = c.requires.source.at c.loop-k.k (omega arith)
-
 pub loop-k-preserved : goal.loop-k-preserved
 loop-k-preserved c =
     let head = c.loop-k in (

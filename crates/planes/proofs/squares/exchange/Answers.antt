@@ -20,7 +20,3 @@ returns c =
 pub loop-l-init : goal.loop-l-init
 loop-l-init c =
     (omega arith, refl, none_exchanged _ _ _ _)
-
-pub bounds-rows-at-in-loop-l-3 : goal.bounds-rows-at-in-loop-l-3
-bounds-rows-at-in-loop-l-3 c =
-    simp length-set (omega arith)

@@ -1,22 +1,8 @@
 -- Invariant: q blocks are done.
-use Prim.Native.Nat.{◌+◌, ◌*◌, ◌≤◌}
 use mathlib.Core.Path.{◌≡◌, ◌∙◌, refl}
-use native.Mathlib.Nat.{mul-le-mul_right}
 use native.Mathlib.Omega.{arith}
-use borrow.Author.Rules.{rules}
 use Rattle.planes.proofs.TurnLaw.{none_levelled, one_levelled}
 use Rattle.planes.proofs.squares.level.Goals as goal
-
--- the next block ends among the rows
-pub overflow_mul-q : goal.overflow_mul-q
-overflow_mul-q c =
-    let more : c.loop-q.q + 1 ≤ c.args.n = omega arith in
-    omega (arith, mul-le-mul_right (2 * c.args.h) more)
-
-pub exchange-requires : goal.exchange-requires
-exchange-requires c =
-    let more : c.loop-q.q + 1 ≤ c.args.n = omega arith in
-    record { width = search rules; room = omega (arith, mul-le-mul_right (2 * c.args.h) more) }
 
 pub loop-q-preserved : goal.loop-q-preserved
 loop-q-preserved c =
