@@ -1,20 +1,16 @@
 -- What a task's gates take is what the orders on lent runs ask.
-use Prim.Native.Nat.{ℕ, ◌+◌, ◌*◌, ◌-◌, ◌≤◌, ◌^◌}
+use Prim.Native.Nat.{ℕ, ◌+◌, ◌≤◌, ◌^◌}
 use mathlib.Core.Bool.{Bool, false}
 use mathlib.Core.List.{List, ◌++◌}
 use mathlib.Core.Path.{◌≡◌, ap, ap₂, subst, sym, ◌∙◌}
 use native.Mathlib.Omega.{arith}
-use lib.ListN.{drop, length, length-append, length-map, length-replicate, replicate}
-use Rattle.ring.specs.Rings.{modulus_of, width_of}
-use Rattle.ring.specs.declared.rings.Ring.{Ring}
-use Rattle.ring.proofs.RangeLaw.{modulus-lt, width_ge}
-use Rattle.gate.specs.Places.{InRange, three}
-use Rattle.gate.specs.declared.sharing.Sharing.{Sharing}
+use lib.ListN.{length, length-append, length-map, length-replicate, replicate}
+use Rattle.ring.proofs.RangeLaw.{modulus-lt}
+use Rattle.gate.specs.Places.{three}
 use Rattle.circuit.specs.Circuits.{gates_of}
-use Rattle.circuit.specs.Lent.{ItemsBelow, Long}
-use Rattle.circuit.proofs.LentLaw.{long_less}
+use Rattle.circuit.specs.Lent.{Long}
 use Rattle.machine.specs.Checks.{any_bad}
-use Rattle.order.specs.Tasks.{Decomposes, Fit, Multiplies, Shifts, circuit_of, cost_of}
+use Rattle.order.specs.Tasks.{circuit_of, cost_of}
 use Rattle.order.specs.declared.tasks.Cost.{Cost}
 use Rattle.order.specs.declared.tasks.Task.{Task}
 use Rattle.order.specs.declared.tasks.Task.TheVariants.{Compose, Convert, Decompose, Multiply, Shift}
@@ -52,51 +48,3 @@ supplied t {k} {t₀} {t₁} {t₂} {c₀} {c₁} {c₂} is masks room found goo
     let items = both_below k.bits k.ring k.modulus (sym found ∙ good) in
     subst (λ (k : Cost). Supplied k t₀ t₁ t₂ c₀ c₁ c₂) is
     (record { masks = masks; room = room; first = items.0; items = items.1 })
-
--- what each order asks
-module _ {t : Task} {t₀ t₁ t₂ c₀ c₁ c₂ : List ℕ} (fit : Fit t) (s : Supplied (cost_of t) t₀ t₁ t₂ c₀ c₁ c₂) where
-  pub multiply_asks : {r : Ring} {x y : Sharing} → t ≡ Multiply r x y
-      → InRange (modulus_of r) x × (InRange (modulus_of r) y × (Long 1 t₀ t₁ t₂ × (ItemsBelow (modulus_of r) 1 t₀ t₁ t₂ × Long 1 c₀ c₁ c₂)))
-  multiply_asks {r} {x} {y} e =
-      let f : Multiplies r x y = rw e at fit in
-      let g : Supplied (cost_of (Multiply r x y)) t₀ t₁ t₂ c₀ c₁ c₂ = rw e at s in
-      (f.left, (f.right, (g.masks, (g.items, g.room))))
-
-  pub decompose_asks : {r : Ring} {a : Sharing} {l : ℕ} → t ≡ Decompose r a l
-      → InRange (modulus_of r) a
-      × (((1 ≤ l) × (l + 2 ≤ width_of r)) × (Long (3 * l + 1) t₀ t₁ t₂ × (Long (3 * l + 1) c₀ c₁ c₂ × ItemsBelow 2 (3 * l + 1) t₀ t₁ t₂)))
-  decompose_asks {r} {a} {l} e =
-      let f : Decomposes r a l = rw e at fit in
-      let g : Supplied (cost_of (Decompose r a l)) t₀ t₁ t₂ c₀ c₁ c₂ = rw e at s in (
-        f.source,
-        (
-          (f.least, omega (arith, f.most, width_ge r)),
-          (long_less (omega arith) g.masks, (long_less (omega arith) g.room, g.first)),
-        ),
-      )
-
-  pub convert_asks : {e f : Ring} {a : Sharing} → t ≡ Convert e f a
-      → InRange (modulus_of e) a
-      × (Long 5 t₀ t₁ t₂ × (ItemsBelow 2 1 t₀ t₁ t₂ × (ItemsBelow (modulus_of f) 4 (drop 1 t₀) (drop 1 t₁) (drop 1 t₂) × Long 5 c₀ c₁ c₂)))
-  convert_asks {e} {f} {a} q =
-      let g : Supplied (cost_of (Convert e f a)) t₀ t₁ t₂ c₀ c₁ c₂ = rw q at s in
-      let h : InRange (modulus_of e) a = rw q at fit in
-      (h, (g.masks, (g.first, (g.items, g.room))))
-
-  pub shift_asks : {r : Ring} {a : Sharing} {n : ℕ} → t ≡ Shift r a n
-      → let b = 3 * (width_of r - 2) + 1 in
-      let k = 2 * (width_of r - 2 - n) in
-      InRange (modulus_of r) a
-      × ((n + 3 ≤ width_of r)
-      × (Long (b + k) t₀ t₁ t₂ × (ItemsBelow 2 b t₀ t₁ t₂ × (ItemsBelow (modulus_of r) k (drop b t₀) (drop b t₁) (drop b t₂) × Long (b + k) c₀ c₁ c₂))))
-  shift_asks {r} {a} {n} e =
-      let f : Shifts r a n = rw e at fit in
-      let g : Supplied (cost_of (Shift r a n)) t₀ t₁ t₂ c₀ c₁ c₂ = rw e at s in
-      (f.source, (omega (arith, f.most, width_ge r), (g.masks, (g.first, (g.items, g.room)))))
-
-  pub compose_asks : {f : Ring} {w : Sharing} {l : ℕ} → t ≡ Compose f w l
-      → (l ≤ 59) × (Long (2 * l) t₀ t₁ t₂ × (ItemsBelow (modulus_of f) (2 * l) t₀ t₁ t₂ × Long (2 * l) c₀ c₁ c₂))
-  compose_asks {f} {w} {l} e =
-      let few : l ≤ 59 = rw e at fit in
-      let g : Supplied (cost_of (Compose f w l)) t₀ t₁ t₂ c₀ c₁ c₂ = rw e at s in
-      (few, (long_less (omega arith) g.masks, (g.items, long_less (omega arith) g.room)))

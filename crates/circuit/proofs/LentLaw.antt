@@ -156,7 +156,3 @@ part_below m n k t h j below = rw (part_is k t, get_or-drop k t j 0) (h (k + j) 
 pub below_on : (m n k : ℕ) {t₀ t₁ t₂ : List ℕ} → ItemsBelow m (k + n) t₀ t₁ t₂ → ItemsBelow m n (part_from k t₀) (part_from k t₁) (part_from k t₂)
 below_on m n k {t₀} {t₁} {t₂} h =
     record { zero = part_below m n k t₀ h.zero; one = part_below m n k t₁ h.one; two = part_below m n k t₂ h.two }
-
-pub below_part : {m n : ℕ} (k : ℕ) (t₀ t₁ t₂ : List ℕ) → ItemsBelow m n (drop k t₀) (drop k t₁) (drop k t₂)
-    → ItemsBelow m n (part_from k t₀) (part_from k t₁) (part_from k t₂)
-below_part k t₀ t₁ t₂ h = rw (part_is k t₀, part_is k t₁, part_is k t₂) h

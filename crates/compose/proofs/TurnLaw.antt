@@ -17,10 +17,10 @@ use Rattle.gate.proofs.PlaceLaw.{each}
 use Rattle.gate.proofs.WordLaw.{gated_cong}
 use Rattle.circuit.specs.Circuits.{after, heads, words}
 use Rattle.circuit.specs.Compose.{Summing, compose_gates, first_gate, joined, second_gate, summing_start}
-use Rattle.circuit.specs.Lent.{ItemsBelow, Long}
+use Rattle.circuit.specs.Lent.{Long}
 use Rattle.circuit.specs.Orders.{word_bit}
 use Rattle.circuit.specs.Sharings.{items_at, zeros}
-use Rattle.circuit.proofs.LentLaw.{AsLong, below_less, long_less, long_same, part_from, parts_from, put_back, put_part, ran-gate, ran-three, rooms}
+use Rattle.circuit.proofs.LentLaw.{AsLong, part_from, parts_from, put_back, put_part, ran-gate, ran-three, rooms}
 use Rattle.circuit.proofs.TurnLaw.{items-next}
 use Rattle.compose.specs.Steps.{Joins}
 use Rattle.compose.specs.Sums.{Holds, JoinsBit, Summed, bit_gates}
@@ -192,22 +192,3 @@ module _ {m from count : ℕ} {w : Sharing} {t₀ t₁ t₂ c₀ c₁ c₂ : Lis
   all-summed done is =
       let e : count ≡ k = omega (arith, reached.most) in
       rw e (record { sums = λ i. reached.summed.sums i ∙ sym (is i); channels = reached.summed.channels })
-
--- what one turn needs of the runs
-pub record Turn (m from k : ℕ) (t₀ t₁ t₂ d₀ d₁ d₂ : List ℕ) : Type 0 where
-  pub place : from + k < 64
-  pub masks : Long (2 * k + 2) t₀ t₁ t₂
-  pub items : ItemsBelow m (2 * k + 2) t₀ t₁ t₂
-  pub room : Long (2 * k + 2) d₀ d₁ d₂
-
-pub turn_of : {m from count : ℕ} {w : Sharing} {t₀ t₁ t₂ c₀ c₁ c₂ : List ℕ} {k j : ℕ} {sum : Sharing} {d₀ d₁ d₂ : List ℕ}
-    → Reached m from count w t₀ t₁ t₂ c₀ c₁ c₂ k j sum d₀ d₁ d₂
-    → k < count → from + count ≤ 64 → Long (2 * count) t₀ t₁ t₂ → ItemsBelow m (2 * count) t₀ t₁ t₂ → Long (2 * count) c₀ c₁ c₂
-    → Turn m from k t₀ t₁ t₂ d₀ d₁ d₂
-turn_of {m} {from} {count} {k = k} h more few masks items room =
-    record {
-      place = omega arith;
-      masks = long_less (omega arith) masks;
-      items = below_less (omega arith) items;
-      room = long_less (omega arith) (long_same h.same room);
-    }

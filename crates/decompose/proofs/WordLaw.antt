@@ -1,22 +1,16 @@
 -- The words as the code computes them: a bit stored by a shift, and the low bits by a mask.
-use Prim.Native.Nat.{ℕ, suc, ◌+◌, ◌*◌, ◌-◌, ◌/◌, ◌%◌, ◌<◌, ◌≤◌, ◌^◌}
+use Prim.Native.Nat.{ℕ, ◌*◌, ◌-◌, ◌/◌, ◌%◌, ◌<◌, ◌^◌}
 use mathlib.Core.Path.{◌≡◌}
 use native.Mathlib.Nat.{mod-lt}
 use native.Mathlib.Omega.{arith}
 use lib.Bits.{and_mask, bit_and, bit_xor}
-use lib.Pow.{pow_mono, pow_pos, shl_exact}
+use lib.Pow.{pow_pos, shl_exact}
 use Rattle.ring.proofs.WordLaw.{shifted_one}
-use Rattle.circuit.proofs.BitsLaw.{stored-lt}
 use Rattle.decompose.specs.Words.{upper}
 
 -- a bit stored above a word
 pub shifted_is : {b k : ℕ} → b < 2 → k < 64 → (b * 2 ^ k) % 2 ^ 64 ≡ b * 2 ^ k
 shifted_is {b} {k} hb hk = shl_exact 1 k 64 hb (omega arith)
-
-pub stored-fits : (k : ℕ) {w b : ℕ} → w < 2 ^ k → b < 2 → k < 64 → w + b * 2 ^ k < 2 ^ 64
-stored-fits k hw hb hk =
-    let room : 2 ^ suc k ≤ 2 ^ 64 = pow_mono {j = 64} (omega arith) in
-    omega (arith, stored-lt k hw hb)
 
 -- the low bits by the mask
 pub upper_is : (total raising : ℕ) {l : ℕ} → l < 64

@@ -131,9 +131,6 @@ laned e l a₀ a₁ a₂ z₀ z₁ z₂ from work to = record {
   at = λ k inside. work.on k e (items_at k a₀ a₁ a₂) (items_at k z₀ z₁ z₂) (from.at k inside) (to.at k inside);
 }
 
-pub none_wider : (l e : ℕ) (o : List ℕ) → l ≤ e → NoPlanes l o → NoPlanes e o
-none_wider l e o wider none = record { at = λ j from h. none.at j (omega arith) h }
-
 pub zeros_none : (e : ℕ) → NoPlanes e (replicate 192 0)
 zeros_none e = record {
   at = λ j from h.

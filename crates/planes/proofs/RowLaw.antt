@@ -130,9 +130,6 @@ module _ (a ys : List ℕ) (long : length a ≡ 64) (part : length ys ≡ 32) (t
           halved k 32 inside (λ near. omega (arith, split.low k near))
           (λ c at far. rw at (omega (arith, split.high c far, words c far)))
 
-pub none_narrow : (e : ℕ) (o : List ℕ) → e ≤ 32 → NoneFrom e o → NoneFrom 32 o
-none_narrow e o narrow none = record { at = λ j from h. none.at j (omega arith) h }
-
 -- ---- rows split one by one
 
 pub none_split : (o z : List ℕ) → Split 0 o z
