@@ -1,4 +1,5 @@
 -- What the code answers is what the definition leaves.
+use Rattle.std.specs.Prelude.{Some, None, Option}
 use Prim.Native.Nat.{ℕ, ◌+◌, ◌*◌, ◌-◌, ◌<◌, ◌≤◌}
 use mathlib.Core.Bool.{Bool, cond, false, not, true, ◌&&◌, ◌||◌}
 use mathlib.Core.List.{List, ◌++◌}
@@ -8,8 +9,6 @@ use borrow.Author.Tests.{eqb-true, leb-true, not-false}
 use lib.Dec.{eqb, leb}
 use lib.ListN.{drop, get_or, length, replicate}
 use Rattle.ring.specs.Rings.{modulus_of, ring_of, width_of}
-use Rattle.ring.specs.declared.rings.OfWidth.{OfWidth}
-use Rattle.ring.specs.declared.rings.OfWidth.TheVariants.{Named, NoRing}
 use Rattle.ring.specs.declared.rings.Ring.{Ring}
 use Rattle.ring.specs.declared.rings.Ring.TheVariants.{R13, R31, R61}
 use Rattle.ring.proofs.RangeLaw.{width_ge}
@@ -143,9 +142,9 @@ module _ (e l : ℕ) (a T c z : Place → List ℕ) where
 
 -- ---- the ring
 
-abbrev width_in : OfWidth → ℕ
-width_in (Named r) = width_of r
-width_in NoRing = 0
+abbrev width_in : Option Ring → ℕ
+width_in (Some r) = width_of r
+width_in None = 0
 
 module _ (e : ℕ) where
   -- check 5 is met just where a batch has no ring
@@ -154,8 +153,8 @@ module _ (e : ℕ) where
   five = go (eqb e 13) (eqb e 31) (eqb e 61) refl refl refl
     where
       go : (b₁₃ b₃₁ b₆₁ : Bool) → eqb e 13 ≡ b₁₃ → eqb e 31 ≡ b₃₁ → eqb e 61 ≡ b₆₁
-          → no_ring (cond b₃₁ (Named R31) (cond b₆₁ (Named R61) NoRing))
-          ≡ (no_ring (cond b₁₃ (Named R13) (cond b₃₁ (Named R31) (cond b₆₁ (Named R61) NoRing))) || b₁₃)
+          → no_ring (cond b₃₁ (Some R31) (cond b₆₁ (Some R61) None))
+          ≡ (no_ring (cond b₁₃ (Some R13) (cond b₃₁ (Some R31) (cond b₆₁ (Some R61) None))) || b₁₃)
       go true true b₆₁ h k m = absurd (omega (arith, eqb-true e 13 h, eqb-true e 31 k))
       go true false true h k m = absurd (omega (arith, eqb-true e 13 h, eqb-true e 61 m))
       go true false false h k m = refl
@@ -167,16 +166,16 @@ module _ (e : ℕ) where
   unfolding batch_ring
   width_is = go (eqb e 31) (eqb e 61) refl refl
     where
-      go : (b₃₁ b₆₁ : Bool) → eqb e 31 ≡ b₃₁ → eqb e 61 ≡ b₆₁ → no_ring (cond b₃₁ (Named R31) (cond b₆₁ (Named R61) NoRing)) ≡ false
-          → e ≡ width_in (cond b₃₁ (Named R31) (cond b₆₁ (Named R61) NoRing))
+      go : (b₃₁ b₆₁ : Bool) → eqb e 31 ≡ b₃₁ → eqb e 61 ≡ b₆₁ → no_ring (cond b₃₁ (Some R31) (cond b₆₁ (Some R61) None)) ≡ false
+          → e ≡ width_in (cond b₃₁ (Some R31) (cond b₆₁ (Some R61) None))
       go true b₆₁ h k none = eqb-true e 31 h
       go false true h k none = eqb-true e 61 k
       go false false h k none = cc
 
-  pub no_ring_lem : batch_ring e ≡ NoRing → (no_ring (ring_of e) || eqb e 13) ≡ true
+  pub no_ring_lem : batch_ring e ≡ None → (no_ring (ring_of e) || eqb e 13) ≡ true
   no_ring_lem h = sym five ∙ ap no_ring h
 
-  pub named_ring : {r : Ring} → batch_ring e ≡ Named r → (e ≡ width_of r) × ((no_ring (ring_of e) || eqb e 13) ≡ false)
+  pub named_ring : {r : Ring} → batch_ring e ≡ Some r → (e ≡ width_of r) × ((no_ring (ring_of e) || eqb e 13) ≡ false)
   named_ring h = (width_is (ap no_ring h) ∙ ap width_in h, sym five ∙ ap no_ring h)
 
 -- ---- the call
@@ -199,11 +198,11 @@ module _ (e l : ℕ) (a T c z : Place → List ℕ) {b b' : Bool} (figures : b �
   unfolding checks
   length_met h = refused e l a T c z NotSixtyFour (met 23 _ (six h))
 
-  pub ring_met : (b || b') ≡ false → batch_ring e ≡ NoRing → answered (Refused refusal.NoRing) c z ≡ batch e l a T c z
+  pub ring_met : (b || b') ≡ false → batch_ring e ≡ None → answered (Refused refusal.NoRing) c z ≡ batch e l a T c z
   unfolding checks
   ring_met h none = refused e l a T c z refusal.NoRing (passed 23 _ (six h) (met 5 _ (no_ring_lem e none)))
 
-  pub figures-left : (b || b') ≡ false → {r : Ring} {o : Outcome} → batch_ring e ≡ Named r
+  pub figures-left : (b || b') ≡ false → {r : Ring} {o : Outcome} → batch_ring e ≡ Some r
       → o ≡ settled (first_met (figure_checks (width_of r) l a (lengths_of T c))) (width_of r) l a T c z → o ≡ batch e l a T c z
   unfolding batch checks
   figures-left h {r} named is =

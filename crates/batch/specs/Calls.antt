@@ -1,8 +1,7 @@
 -- A batch in code: its ring, and what an answer says.
 -- Used by the code's contracts alone: no theorem's statement speaks of it.
-use Rattle.std.specs.Prelude.{ℕ, cond, List, eqb}
-use Rattle.ring.specs.declared.rings.OfWidth.{OfWidth}
-use Rattle.ring.specs.declared.rings.OfWidth.TheVariants.{Named, NoRing}
+use Rattle.std.specs.Prelude.{ℕ, cond, List, eqb, Some, None, Option}
+use Rattle.ring.specs.declared.rings.Ring.{Ring}
 use Rattle.ring.specs.declared.rings.Ring.TheVariants.{R31, R61}
 use Rattle.gate.specs.Places.{Place}
 use Rattle.machine.specs.declared.answers.Answer.{Answer}
@@ -10,8 +9,8 @@ use Rattle.order.specs.Answers.{gates_of, refusal_of, value_of}
 use Rattle.batch.specs.Batch.{Outcome}
 
 -- "of one ring, 31 or 61"
-unfoldable pub batch_ring : ℕ → OfWidth
-batch_ring e = cond (eqb e 31) (Named R31) (cond (eqb e 61) (Named R61) NoRing)
+unfoldable pub batch_ring : ℕ → Option Ring
+batch_ring e = cond (eqb e 31) (Some R31) (cond (eqb e 61) (Some R61) None)
 
 -- an answer, with the channels and results that a call leaves
 abbrev pub answered : Answer → (c z : Place → List ℕ) → Outcome

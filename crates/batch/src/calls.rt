@@ -12,7 +12,7 @@ use crate::checks::{batch_ring, figures_why, not_count};
 use lanes::decompose_lanes;
 use machine::{Answer, Refusal};
 use order::Verdict;
-use ring::{OfWidth, Ring};
+use ring::Ring;
 
 // An accepted batch.
 fn run(
@@ -109,7 +109,7 @@ pub fn decompose_batch(
         return Answer::Refused(Refusal::NotSixtyFour);
     }
     match batch_ring(e) {
-        OfWidth::NoRing => Answer::Refused(Refusal::NoRing),
-        OfWidth::Named(r) => in_ring(r, l, a0, a1, a2, m0, m1, m2, c0, c1, c2, z0, z1, z2),
+        None => Answer::Refused(Refusal::NoRing),
+        Some(r) => in_ring(r, l, a0, a1, a2, m0, m1, m2, c0, c1, c2, z0, z1, z2),
     }
 }

@@ -12,7 +12,7 @@ ghost use Rattle.batch.specs.Calls.{batch_ring};
 use attempt::{any_outside, room};
 use machine::Refusal;
 use order::Verdict;
-use ring::{OfWidth, Ring};
+use ring::Ring;
 
 // Figures of a batch, one a bit of a word.
 const COUNT: u64 = 64;
@@ -28,16 +28,16 @@ pub fn not_count(n0: usize, n1: usize, n2: usize) -> bool
 }
 
 // The ring of a batch: 13 has none.
-pub fn batch_ring(e: u64) -> OfWidth
+pub fn batch_ring(e: u64) -> Option<Ring>
     ensures { result ≡ batch_ring e }
 {
     if e == Ring::WIDTH_31 {
-        return OfWidth::Named(Ring::R31);
+        return Some(Ring::R31);
     }
     if e == Ring::WIDTH_61 {
-        return OfWidth::Named(Ring::R61);
+        return Some(Ring::R61);
     }
-    OfWidth::NoRing
+    None
 }
 
 // Checks 7, 10, 8, 9 and 11, on the figures and on the lengths of mask tapes and channels.

@@ -1,4 +1,5 @@
 -- Arguments: numbers read as one field, names, and ring codes.
+use Rattle.std.specs.Prelude.{Some, None}
 use Prim.Native.Nat.{ℕ, suc, ◌+◌, ◌-◌, ◌*◌, ◌≤◌, ◌<◌, ◌^◌}
 use mathlib.Core.Path.{◌≡◌, refl, ap, sym, ◌∙◌}
 use mathlib.Core.Bool.{Bool, true, false, cond, not, ◌&&◌, ◌||◌}
@@ -15,7 +16,6 @@ use Rattle.line.specs.Readings.{byte_on, comma_on, digit_on, ended, grown, read,
 use Rattle.line.specs.declared.readings.Reading.{Reading}
 use Rattle.line.proofs.FieldLaw.{Fit, fit_more, fit_none, larger, left_true, longer, number_fit, number_none, number_unfit, right_true, split, unfit_digit, unfit_more, unfit_other}
 use Rattle.ring.specs.Rings.{ring_of}
-use Rattle.ring.specs.declared.rings.OfWidth.TheVariants.{Named, NoRing}
 use Rattle.ring.specs.declared.rings.Ring.{Ring}
 use Rattle.tape.specs.Tapes as tapes
 use Rattle.drawing.specs.Asks.{asked_of, code_in, few_in, is_code, kind_of, number_in, same_bytes, told}
@@ -175,11 +175,11 @@ module _ (code : ℕ) where
   unfolding is_code tapes.kind_of
   bits_code is = rw (eq-eqb code 1)
 
-  pub ring_code : {r : Ring} → (code ≡ 1 → ⊥) → ring_of code ≡ Named r → true ≡ is_code code
+  pub ring_code : {r : Ring} → (code ≡ 1 → ⊥) → ring_of code ≡ Some r → true ≡ is_code code
   unfolding is_code tapes.kind_of
   ring_code not is = rw (ne_eqb code 1, is)
 
-  pub no_code : (code ≡ 1 → ⊥) → ring_of code ≡ NoRing → false ≡ is_code code
+  pub no_code : (code ≡ 1 → ⊥) → ring_of code ≡ None → false ≡ is_code code
   unfolding is_code tapes.kind_of
   no_code not is = rw (ne_eqb code 1, is)
 

@@ -1,3 +1,5 @@
+use Rattle.std.specs.Prelude.{Some, None, Option}
+use Rattle.ring.specs.declared.rings.Ring.{Ring}
 -- The lines printed, read by the job program's definition.
 use Prim.Native.Nat.{ℕ, zero, suc, ◌+◌, ◌*◌, ◌<◌, ◌^◌}
 use mathlib.Core.Bool.{Bool, true, false, not, ◌&&◌}
@@ -14,8 +16,6 @@ use Rattle.line.specs.declared.commands.Command.TheVariants as command
 use Rattle.line.proofs.DecimalLaw.{fit_decimal, reads_back}
 use Rattle.line.proofs.FieldLaw.{both_true, left_true, right_true, split}
 use Rattle.ring.specs.Rings.{modulus_of, ring_of}
-use Rattle.ring.specs.declared.rings.OfWidth.{OfWidth}
-use Rattle.ring.specs.declared.rings.OfWidth.TheVariants.{Named, NoRing}
 use Rattle.ring.proofs.RangeLaw.{modulus-lt}
 use Rattle.tape.specs.Tapes.{Kind as Items, items, kind_of, kind_of_ring, other, prepared}
 use Rattle.tape.proofs.Theorems.{in_range, same_length}
@@ -142,9 +142,9 @@ lines-read kind (suc k) ts rest h =
     rw (append_assoc (lines_of kind k ts) (line_of kind k ts) rest, lines-read kind k ts (line_of kind k ts ++ rest) h, line_reads kind k ts rest h, append_assoc)
 
 -- items fit a word
-limit_ring : (r : OfWidth) {e limit : ℕ} → kind_of_ring r ≡ items e limit → limit < 2 ^ 64
-limit_ring (Named r) {limit = l} h = let same : l ≡ modulus_of r = cc in omega (arith, modulus-lt r)
-limit_ring NoRing h = let wrong : ◌≡◌ {A = ℕ} 0 1 = cc in omega arith
+limit_ring : (r : Option Ring) {e limit : ℕ} → kind_of_ring r ≡ items e limit → limit < 2 ^ 64
+limit_ring (Some r) {limit = l} h = let same : l ≡ modulus_of r = cc in omega (arith, modulus-lt r)
+limit_ring None h = let wrong : ◌≡◌ {A = ℕ} 0 1 = cc in omega arith
 
 limit_small : (code : ℕ) {e limit : ℕ} → kind_of code ≡ items e limit → limit < 2 ^ 64
 unfolding kind_of

@@ -5,7 +5,7 @@ ghost use Rattle.line.specs.Lines.{number_of};
 
 use crate::lines::Kind;
 use line::Reading;
-use ring::{OfWidth, Ring};
+use ring::Ring;
 
 // The number of an argument, if it has one that will do.
 #[derive(Clone, Copy)]
@@ -64,8 +64,8 @@ fn is_code(code: u64) -> bool
         return true;
     }
     match Ring::of_width(code) {
-        OfWidth::Named(_) => true,
-        OfWidth::NoRing => false,
+        Some(_) => true,
+        None => false,
     }
 }
 

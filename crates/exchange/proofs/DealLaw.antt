@@ -1,4 +1,5 @@
 -- Order 1: its checks as the code makes them, and its step.
+use Rattle.std.specs.Prelude.{Some, None, Option}
 use Prim.Native.Nat.{ℕ, ◌+◌, ◌<◌, ◌≤◌}
 use mathlib.Core.Bool.{Bool, false, not, true, ◌||◌}
 use mathlib.Core.List.{List, [], ◌∷◌}
@@ -10,8 +11,6 @@ use lib.ListN.{get_or-eq_default, drop, get_or, length}
 use lib.Seq.{get_or-drop}
 use Rattle.ring.specs.Modular.{diff}
 use Rattle.ring.specs.Rings.{modulus, modulus_of, ring_of}
-use Rattle.ring.specs.declared.rings.OfWidth.{OfWidth}
-use Rattle.ring.specs.declared.rings.OfWidth.TheVariants.{Named, NoRing}
 use Rattle.ring.specs.declared.rings.Ring.{Ring}
 use Rattle.ring.proofs.RangeLaw.{width_named}
 use Rattle.gate.specs.Places.{Place}
@@ -63,11 +62,11 @@ module _ (p v n at r₀ r₁ : ℕ) where
         all_fit h = last (last_passed 10 h)
 
 -- with the check of e
-module _ (s : Bool) (at d e v n r₀ r₁ : ℕ) {w : OfWidth} (sure : not s ≡ false) (seat : d ≤ 15) (named : w ≡ ring_of e) where
-  pub no_ring_lem : w ≡ NoRing → 5 ≡ first_met (deal_checks s at d e v n r₀ r₁)
+module _ (s : Bool) (at d e v n r₀ r₁ : ℕ) {w : Option Ring} (sure : not s ≡ false) (seat : d ≤ 15) (named : w ≡ ring_of e) where
+  pub no_ring_lem : w ≡ None → 5 ≡ first_met (deal_checks s at d e v n r₀ r₁)
   no_ring_lem h = begun s d _ sure seat (met 5 _ (ap no_ring (sym named ∙ h)))
 
-  pub in_ring : {r : Ring} {p u : ℕ} → w ≡ Named r → p ≡ modulus_of r → u ≡ first_met (number_checks p v n at r₀ r₁)
+  pub in_ring : {r : Ring} {p u : ℕ} → w ≡ Some r → p ≡ modulus_of r → u ≡ first_met (number_checks p v n at r₀ r₁)
       → u ≡ first_met (deal_checks s at d e v n r₀ r₁)
   in_ring h modular rest =
       let ring = sym named ∙ h in
@@ -92,16 +91,16 @@ deal_in s at d e v n r₀ r₁ fine =
 
 -- the register
 module _ (e v r₀ r₁ : ℕ) where
-  pub dealt_none : ring_of e ≡ NoRing → Empty ≡ dealt_register e v r₀ r₁
-  dealt_none h = sym (ap (λ (w : OfWidth). register_of (number_kind w) (dealt_shares (modulus e) v r₀ r₁)) h)
+  pub dealt_none : ring_of e ≡ None → Empty ≡ dealt_register e v r₀ r₁
+  dealt_none h = sym (ap (λ (w : Option Ring). register_of (number_kind w) (dealt_shares (modulus e) v r₀ r₁)) h)
 
-  pub dealt_number : {r : Ring} {s t : ℕ} → ring_of e ≡ Named r → s ≡ diff (modulus_of r) v r₀ → t ≡ diff (modulus_of r) s r₁
+  pub dealt_number : {r : Ring} {s t : ℕ} → ring_of e ≡ Some r → s ≡ diff (modulus_of r) v r₀ → t ≡ diff (modulus_of r) s r₁
       → Number r (record { s0 = r₀; s1 = r₁; s2 = t }) ≡ dealt_register e v r₀ r₁
   dealt_number {r} h first second =
       let p = modulus_of r in
       ap (λ (t : ℕ). Number r (record { s0 = r₀; s1 = r₁; s2 = t })) (second ∙ ap (λ (s : ℕ). diff p s r₁) first)
       ∙ ap (λ (q : ℕ). Number r (dealt_shares q v r₀ r₁)) (ap modulus (sym (width_named e h)))
-      ∙ sym (ap (λ (w : OfWidth). register_of (number_kind w) (dealt_shares (modulus e) v r₀ r₁)) h)
+      ∙ sym (ap (λ (w : Option Ring). register_of (number_kind w) (dealt_shares (modulus e) v r₀ r₁)) h)
 
 -- the step, with items r₀ and r₁ next on the tape
 module _ (m : Machine) (d e v : ℕ) (D : List ℕ) {s : Bool} {at r₀ r₁ : ℕ} (of : Dealing m s at)

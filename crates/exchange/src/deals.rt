@@ -11,7 +11,7 @@ ghost use Rattle.exchange.specs.Exchanges.{Dealing, deal_checks, dealt_register,
 use gate::Sharing;
 use machine::{Answer, MILLION, Machine, Order, Refusal, Register};
 use order::{Change, too_few};
-use ring::{OfWidth, Ring};
+use ring::Ring;
 
 // Item k of what is left of a tape from a position on, 0 past its end.
 fn item(tape: &[u64], at: u64, k: u64) -> u64
@@ -58,8 +58,8 @@ fn deal_why(sound: bool, at: u64, d: u64, e: u64, v: u64, n: u64, r0: u64, r1: u
     }
     let w = Ring::of_width(e);
     match w {
-        OfWidth::NoRing => Answer::Refused(Refusal::NoRing),
-        OfWidth::Named(r) => number_why(r.modulus(), v, n, at, r0, r1),
+        None => Answer::Refused(Refusal::NoRing),
+        Some(r) => number_why(r.modulus(), v, n, at, r0, r1),
     }
 }
 
@@ -72,8 +72,8 @@ fn dealt_register(e: u64, v: u64, r0: u64, r1: u64) -> Register
 {
     let w = Ring::of_width(e);
     match w {
-        OfWidth::NoRing => Register::Empty,
-        OfWidth::Named(r) => {
+        None => Register::Empty,
+        Some(r) => {
             let s2 = r.sub(r.sub(v, r0), r1);
             Register::Number(r, Sharing { s0: r0, s1: r1, s2 })
         }

@@ -1,4 +1,5 @@
 -- When a call is malformed, and what it leaves otherwise.
+use Rattle.std.specs.Prelude.{Some, None, Option}
 use Prim.Native.Nat.{ℕ}
 use mathlib.Core.Bool.{Bool, cond, false, not, true}
 use mathlib.Core.List.{List, [], ◌∷◌}
@@ -12,8 +13,6 @@ use Rattle.machine.specs.Checks.{Tapes}
 use Rattle.machine.specs.Step.{Outcome, step}
 use Rattle.machine.specs.Registers.{sound}
 use Rattle.machine.specs.declared.answers.Answer.{Answer}
-use Rattle.machine.specs.declared.orders.OfKind.{OfKind}
-use Rattle.machine.specs.declared.orders.OfKind.TheVariants.{Named, NoOrder}
 use Rattle.machine.specs.declared.orders.Order.{Order}
 use Rattle.machine.specs.declared.registers.Machine.{Machine}
 use Rattle.layout.specs.Layout.{MachineFound, answer_words, found, machine_of, none, order_of, seen_of}
@@ -31,16 +30,16 @@ cond_same : {A : Type 0} (b : Bool) (u : A) → cond b u u ≡ u
 cond_same true u = refl
 cond_same false u = refl
 
-no_machine : (r : OfKind) (T : Tapes) (c : Place → List ℕ) (u : Left) → step_read r none T c u ≡ u
-no_machine (Named o) T c u = refl
-no_machine NoOrder T c u = refl
+no_machine : (r : Option Order) (T : Tapes) (c : Place → List ℕ) (u : Left) → step_read r none T c u ≡ u
+no_machine (Some o) T c u = refl
+no_machine None T c u = refl
 
 -- an answer of another length than 3
 pub answer-length : (o m a : List ℕ) (T : Tapes) (c : Place → List ℕ) → (length a ≡ 3 → ⊥) → left malformed m a c ≡ step_words o m a T c
 unfolding step_words
 answer-length o m a T c h = rw (ne_eqb (length a) 3 h)
 
-pub order_unread : (o m a : List ℕ) (T : Tapes) (c : Place → List ℕ) → order_of o ≡ NoOrder → left malformed m a c ≡ step_words o m a T c
+pub order_unread : (o m a : List ℕ) (T : Tapes) (c : Place → List ℕ) → order_of o ≡ None → left malformed m a c ≡ step_words o m a T c
 unfolding step_words
 order_unread o m a T c e = rw (e, cond_same)
 
@@ -49,7 +48,7 @@ unfolding step_words
 record_unread o m a T c e = rw (e, no_machine, cond_same)
 
 pub step-read : (o m a : List ℕ) (T : Tapes) (c : Place → List ℕ) {k : Order} {s : Machine}
-    → length a ≡ 3 → order_of o ≡ Named k → machine_of m ≡ found s → left_by (step k s T c) ≡ step_words o m a T c
+    → length a ≡ 3 → order_of o ≡ Some k → machine_of m ≡ found s → left_by (step k s T c) ≡ step_words o m a T c
 unfolding step_words
 step-read o m a T c n e f = rw (eq-eqb (length a) 3 n, e, f)
 

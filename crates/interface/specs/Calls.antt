@@ -1,10 +1,9 @@
 -- What a call from another language leaves, on words.
-use Rattle.std.specs.Prelude.{ℕ, cond, List, [], ◌∷◌, eqb, length}
+use Rattle.std.specs.Prelude.{ℕ, cond, List, [], ◌∷◌, eqb, length, Some, None, Option}
+use Rattle.machine.specs.declared.orders.Order.{Order}
 use Rattle.gate.specs.Places.{Place}
 use Rattle.machine.specs.Checks.{Tapes}
 use Rattle.machine.specs.Step.{Outcome, step}
-use Rattle.machine.specs.declared.orders.OfKind.{OfKind}
-use Rattle.machine.specs.declared.orders.OfKind.TheVariants.{Named, NoOrder}
 use Rattle.tape.specs.Tapes as prepared
 use Rattle.batch.specs.Batch as batches
 use Rattle.layout.specs.Layout.{MachineFound, found, machine_of, machine_words, none, order_of}
@@ -28,10 +27,10 @@ abbrev pub left_by : Outcome → Left
 left_by o = left o.refusal (machine_words o.machine) (o.refusal ∷ o.value ∷ o.gates ∷ []) o.channels
 
 -- a step where order and record are read, else what the last argument leaves
-abbrev pub step_read : OfKind → MachineFound → Tapes → (Place → List ℕ) → Left → Left
-step_read (Named o) (found m) T c u = left_by (step o m T c)
-step_read (Named o) none T c u = u
-step_read NoOrder f T c u = u
+abbrev pub step_read : Option Order → MachineFound → Tapes → (Place → List ℕ) → Left → Left
+step_read (Some o) (found m) T c u = left_by (step o m T c)
+step_read (Some o) none T c u = u
+step_read None f T c u = u
 
 -- malformed and nothing changed for words in no layout, else 01's step
 unfoldable pub step_words : (o m a : List ℕ) → Tapes → (Place → List ℕ) → Left

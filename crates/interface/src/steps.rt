@@ -6,7 +6,6 @@ ghost use Rattle.interface.specs.Calls.{left, step_words};
 
 use crate::MALFORMED;
 use layout::{read_order, see, write_answer};
-use machine::OfKind;
 use order::refusal;
 use step::step_words;
 
@@ -36,8 +35,8 @@ pub extern "C" fn survey_step(
         return MALFORMED;
     }
     match read_order(order) {
-        OfKind::NoOrder => MALFORMED,
-        OfKind::Named(o) => {
+        None => MALFORMED,
+        Some(o) => {
             let given = step_words(seen.sound, o, record, m0, m1, m2, dealer, c0, c1, c2);
             write_answer(given, answer);
             refusal(given)

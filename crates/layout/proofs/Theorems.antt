@@ -1,3 +1,5 @@
+use Rattle.std.specs.Prelude.{Some, None, Option}
+use Rattle.ring.specs.declared.rings.Ring.{Ring}
 -- The facts of specs/Theorems.antt.
 use Prim.Native.Nat.{ℕ, zero, suc, ◌+◌, ◌*◌, ◌≤◌}
 use mathlib.Core.Bool.{Bool, cond, false, true, ◌&&◌}
@@ -8,12 +10,9 @@ use borrow.Author.Tests.{eq-eqb, eqb-true, ne_eqb}
 use lib.Dec.{eqb}
 use lib.ListN.{drop, length, length-append, length-drop}
 use Rattle.ring.specs.Rings.{ring_of}
-use Rattle.ring.specs.declared.rings.OfWidth.{OfWidth}
-use Rattle.ring.specs.declared.rings.OfWidth.TheVariants.{Named, NoRing}
 use Rattle.ring.specs.declared.rings.Ring.TheVariants.{R13, R31, R61}
 use Rattle.ring.proofs.RangeLaw.{width_named}
 use Rattle.gate.specs.declared.sharing.Sharing.{Sharing}
-use Rattle.machine.specs.declared.orders.OfKind.TheVariants as kinds
 use Rattle.machine.specs.declared.orders.Order.{Order}
 use Rattle.machine.specs.declared.orders.Order.TheVariants.{Add, Compose, Convert, Deal, Decompose, Multiply, Open, Scale, Shift}
 use Rattle.machine.specs.declared.registers.Machine.{Machine}
@@ -95,12 +94,12 @@ module _ (n : ℕ) (x : Sharing) (r : Register) where
       sym (ap register_words same) ∙ rw (z, z₀, z₁, z₂))
       (λ _ is. cc)
 
-  number_written : (w : OfWidth) → ring_of n ≡ w → number_from w x ≡ Found r
+  number_written : (w : Option Ring) → ring_of n ≡ w → number_from w x ≡ Found r
       → register_words r ≡ 1 ∷ n ∷ x.s0 ∷ x.s1 ∷ x.s2 ∷ []
-  number_written (Named q) e is =
+  number_written (Some q) e is =
       let same : Number q x ≡ r = cc in
       sym (ap register_words same) ∙ ap (λ (k : ℕ). 1 ∷ k ∷ x.s0 ∷ x.s1 ∷ x.s2 ∷ []) (sym (width_named n e))
-  number_written NoRing e is = cc
+  number_written None e is = cc
 
   register_written : (t : ℕ) → register_from t n x ≡ Found r → register_words r ≡ t ∷ n ∷ x.s0 ∷ x.s1 ∷ x.s2 ∷ []
   unfolding register_from
@@ -152,11 +151,11 @@ machine_written ws m =
     (λ _ is. let wrong : ◌≡◌ {A = ℕ} 0 1 = cc in absurd (omega arith))
 
 module _ (k a b c : ℕ) (o : Order) where
-  kind : (q : Order) (j : ℕ) → order_words q ≡ j ∷ a ∷ b ∷ c ∷ [] → eqb k j ≡ true → kinds.Named q ≡ kinds.Named o
+  kind : (q : Order) (j : ℕ) → order_words q ≡ j ∷ a ∷ b ∷ c ∷ [] → eqb k j ≡ true → Some q ≡ Some o
       → order_words o ≡ k ∷ a ∷ b ∷ c ∷ []
   kind q j words e is = let same : q ≡ o = cc in rw (eqb-true k j e) (sym (ap order_words same) ∙ words)
 
-  opening : eqb k 9 ≡ true → open_from a b c ≡ kinds.Named o → order_words o ≡ k ∷ a ∷ b ∷ c ∷ []
+  opening : eqb k 9 ≡ true → open_from a b c ≡ Some o → order_words o ≡ k ∷ a ∷ b ∷ c ∷ []
   opening e =
       chosen (eqb b 0 && eqb c 0)
       (λ zeros is.
@@ -165,7 +164,7 @@ module _ (k a b c : ℕ) (o : Order) where
       kind (Open a) 9 (rw (z, z')) e is)
       (λ _ is. cc)
 
-  order_from_lem : order_from k a b c ≡ kinds.Named o → order_words o ≡ k ∷ a ∷ b ∷ c ∷ []
+  order_from_lem : order_from k a b c ≡ Some o → order_words o ≡ k ∷ a ∷ b ∷ c ∷ []
   unfolding order_from of_kind
   order_from_lem =
       chosen (eqb k 9) opening

@@ -1,14 +1,11 @@
 -- How a machine record, an order and an answer are laid out in 64-bit words.
-use Rattle.std.specs.Prelude.{ℕ, zero, suc, cond, false, true, ◌&&◌, List, [], ◌∷◌, ◌++◌, ◌≡◌, eqb, drop, get_or, length}
+use Rattle.std.specs.Prelude.{ℕ, zero, suc, cond, false, true, ◌&&◌, List, [], ◌∷◌, ◌++◌, ◌≡◌, eqb, drop, get_or, length, Some, None, Option}
+use Rattle.ring.specs.declared.rings.Ring.{Ring}
 use Rattle.ring.specs.Rings.{ring_of, width_of}
-use Rattle.ring.specs.declared.rings.OfWidth.{OfWidth}
-use Rattle.ring.specs.declared.rings.OfWidth.TheVariants.{Named, NoRing}
 use Rattle.gate.specs.declared.sharing.Sharing.{Sharing}
 use Rattle.machine.specs.Orders.{of_kind}
 use Rattle.machine.specs.Registers.{slot, sound}
 use Rattle.machine.specs.declared.answers.Answer.{Answer}
-use Rattle.machine.specs.declared.orders.OfKind.{OfKind}
-use Rattle.machine.specs.declared.orders.OfKind.TheVariants as kinds
 use Rattle.machine.specs.declared.orders.Order.{Order}
 use Rattle.machine.specs.declared.orders.Order.TheVariants.{Add, Compose, Convert, Deal, Decompose, Multiply, Open, Scale, Shift}
 use Rattle.machine.specs.declared.registers.Machine.{Machine}
@@ -55,9 +52,9 @@ abbrev pub empty_from : ℕ → Sharing → RegisterRead
 empty_from n x = cond (eqb n 0 && (eqb x.s0 0 && (eqb x.s1 0 && eqb x.s2 0))) (Found Empty) NoRegister
 
 -- tag 1: a number has the width of a ring
-abbrev pub number_from : OfWidth → Sharing → RegisterRead
-number_from (Named r) x = Found (Number r x)
-number_from NoRing x = NoRegister
+abbrev pub number_from : Option Ring → Sharing → RegisterRead
+number_from (Some r) x = Found (Number r x)
+number_from None x = NoRegister
 
 unfoldable pub register_from : (tag n : ℕ) → Sharing → RegisterRead
 register_from tag n x =
@@ -111,12 +108,12 @@ seen_of (found m) = record { ok = true; sound = sound m }
 seen_of none = record { ok = false; sound = false }
 
 -- an opening's last two words are 0
-abbrev pub open_from : (x a b : ℕ) → OfKind
-open_from x a b = cond (eqb a 0 && eqb b 0) (kinds.Named (Open x)) kinds.NoOrder
+abbrev pub open_from : (x a b : ℕ) → Option Order
+open_from x a b = cond (eqb a 0 && eqb b 0) (Some (Open x)) None
 
-unfoldable pub order_from : (kind a b c : ℕ) → OfKind
+unfoldable pub order_from : (kind a b c : ℕ) → Option Order
 order_from k a b c = cond (eqb k 9) (open_from a b c) (of_kind k a b c)
 
 -- the order that words say, where they say one
-unfoldable pub order_of : List ℕ → OfKind
-order_of ws = cond (eqb (length ws) 4) (order_from (get_or ws 0 0) (get_or ws 1 0) (get_or ws 2 0) (get_or ws 3 0)) kinds.NoOrder
+unfoldable pub order_of : List ℕ → Option Order
+order_of ws = cond (eqb (length ws) 4) (order_from (get_or ws 0 0) (get_or ws 1 0) (get_or ws 2 0) (get_or ws 3 0)) None

@@ -2,20 +2,20 @@
 ghost use Rattle.std.specs.Prelude.{◌≡◌};
 ghost use Rattle.layout.specs.Layout.{open_from, order_from, order_of};
 
-use machine::{OfKind, Order};
+use machine::Order;
 
 // Reads a kind, and the order's fields after it.
-pub fn read_order(words: &[u64]) -> OfKind
+pub fn read_order(words: &[u64]) -> Option<Order>
     ensures { result ≡ order_of words.now }
 {
     if words.len() != 4 {
-        return OfKind::NoOrder;
+        return None;
     }
     order_from(words[0], words[1], words[2], words[3])
 }
 
 // The order of a kind and three words.
-fn order_from(kind: u64, a: u64, b: u64, c: u64) -> OfKind
+fn order_from(kind: u64, a: u64, b: u64, c: u64) -> Option<Order>
     ensures { result ≡ order_from kind a b c }
 {
     match kind {
@@ -25,11 +25,11 @@ fn order_from(kind: u64, a: u64, b: u64, c: u64) -> OfKind
 }
 
 // An opening's last two words are 0.
-fn open_from(x: u64, a: u64, b: u64) -> OfKind
+fn open_from(x: u64, a: u64, b: u64) -> Option<Order>
     ensures { result ≡ open_from x a b }
 {
     if (a == 0) & (b == 0) {
-        return OfKind::Named(Order::Open { x });
+        return Some(Order::Open { x });
     }
-    OfKind::NoOrder
+    None
 }

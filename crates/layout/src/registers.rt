@@ -5,7 +5,7 @@ ghost use Rattle.layout.specs.Layout.{empty_from, number_from, register_of, regi
 
 use gate::Sharing;
 use machine::Register;
-use ring::{OfWidth, Ring};
+use ring::Ring;
 
 const EMPTY: u64 = 0;
 
@@ -55,8 +55,8 @@ fn number_from(n: u64, x: Sharing) -> RegisterRead
     ensures { result ≡ number_from (ring_of n) x }
 {
     match Ring::of_width(n) {
-        OfWidth::Named(r) => RegisterRead::Found(Register::Number(r, x)),
-        OfWidth::NoRing => RegisterRead::NoRegister,
+        Some(r) => RegisterRead::Found(Register::Number(r, x)),
+        None => RegisterRead::NoRegister,
     }
 }
 

@@ -1,3 +1,5 @@
+use Rattle.std.specs.Prelude.{Some, None, Option}
+use Rattle.machine.specs.declared.orders.Order.{Order}
 -- The numbers that a line gives are below 2^64.
 use Prim.Native.Nat.{ℕ, zero, suc, ◌<◌, ◌^◌}
 use mathlib.Core.List.{List, [], ◌∷◌}
@@ -7,8 +9,6 @@ use native.Mathlib.Omega.{arith}
 use lib.Dec.{eqb, leb}
 use lib.ListN.{get_or, length}
 use Rattle.machine.specs.Orders.{of_kind}
-use Rattle.machine.specs.declared.orders.OfKind.{OfKind}
-use Rattle.machine.specs.declared.orders.OfKind.TheVariants.{Named, NoOrder}
 use Rattle.line.specs.Lines.{before, command_of, fields_from, fits, if_read, number_of, numbers_of, order_or, with_numbers, with_one, with_three}
 use Rattle.line.specs.Theorems.{ItemsBelow, ItemsFit}
 use Rattle.line.proofs.FieldLaw.{right_true, split, true_fit}
@@ -42,9 +42,9 @@ unfolding numbers_of
 numbers_below [] = λ j. omega arith
 numbers_below (f ∷ fs) = all-before (number_of f) (numbers_of fs) (number_below f) (numbers_below fs)
 
-order-fits : (o : OfKind) → ItemsFit (order_or o)
-order-fits (Named o) = tt
-order-fits NoOrder = tt
+order-fits : (o : Option Order) → ItemsFit (order_or o)
+order-fits (Some o) = tt
+order-fits None = tt
 
 one-fits : (k a : ℕ) → a < 2 ^ 64 → ItemsFit (with_one k a)
 unfolding with_one

@@ -1,9 +1,8 @@
 -- 01, "The job program": which lines an input has, and what a line says. A line is its bytes, without byte 10.
-use Rattle.std.specs.Prelude.{ℕ, ◌+◌, ◌-◌, ◌*◌, ◌^◌, Bool, cond, true, ◌&&◌, List, [], ◌∷◌, ◌++◌, eqb, leb, ltb, length}
+use Rattle.std.specs.Prelude.{ℕ, ◌+◌, ◌-◌, ◌*◌, ◌^◌, Bool, cond, true, ◌&&◌, List, [], ◌∷◌, ◌++◌, eqb, leb, ltb, length, Some, None, Option}
+use Rattle.machine.specs.declared.orders.Order.{Order}
 use Rattle.std.proofs.Math.Option.{Option, none, some}
 use Rattle.machine.specs.Orders.{of_kind}
-use Rattle.machine.specs.declared.orders.OfKind.{OfKind}
-use Rattle.machine.specs.declared.orders.OfKind.TheVariants.{Named, NoOrder}
 use Rattle.machine.specs.declared.orders.Order.TheVariants as order
 use Rattle.line.specs.declared.commands.Command.{Command}
 use Rattle.line.specs.declared.commands.Command.TheVariants.{Dealer, Masks, Order, Unreadable}
@@ -66,9 +65,9 @@ unfoldable pub with_one : (kind a : ℕ) → Command
 with_one k a = cond (eqb k 9) (Order (order.Open a)) (cond (eqb k 10) (Dealer a) Unreadable)
 
 -- "kinds 1 to 9 are the orders"; "an unknown kind"
-abbrev pub order_or : OfKind → Command
-order_or (Named o) = Order o
-order_or NoOrder = Unreadable
+abbrev pub order_or : Option Order → Command
+order_or (Some o) = Order o
+order_or None = Unreadable
 
 -- "Kind 0 adds t0,t1,t2 to the strands", "Fields are in the order given"
 unfoldable pub with_three : (kind a b c : ℕ) → Command

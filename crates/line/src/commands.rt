@@ -2,7 +2,7 @@
 ghost use Rattle.std.specs.Prelude.{◌≡◌};
 ghost use Rattle.line.specs.Lines.{with_one, with_three};
 
-use machine::{OfKind, Order};
+use machine::Order;
 
 // 01, "The job program": items for the mask tapes or for the dealer's, an order, or no such line.
 #[derive(Clone, Copy)]
@@ -36,7 +36,7 @@ pub fn with_three(kind: u64, a: u64, b: u64, c: u64) -> Command
         };
     }
     match Order::of_kind(kind, a, b, c) {
-        OfKind::Named(o) => Command::Order(o),
-        OfKind::NoOrder => Command::Unreadable,
+        Some(o) => Command::Order(o),
+        None => Command::Unreadable,
     }
 }

@@ -1,8 +1,7 @@
 -- 01, "Why an order is refused": the checks of each kind, in the order written.
-use Rattle.std.specs.Prelude.{ℕ, ◌+◌, ◌-◌, Bool, cond, false, not, true, ◌&&◌, ◌||◌, List, [], ◌∷◌, ◌++◌, eqb, leb, ltb, drop, get_or}
+use Rattle.std.specs.Prelude.{ℕ, ◌+◌, ◌-◌, Bool, cond, false, not, true, ◌&&◌, ◌||◌, List, [], ◌∷◌, ◌++◌, eqb, leb, ltb, drop, get_or, Some, None, Option}
+use Rattle.ring.specs.declared.rings.Ring.{Ring}
 use Rattle.ring.specs.Rings.{modulus, ring_of}
-use Rattle.ring.specs.declared.rings.OfWidth.{OfWidth}
-use Rattle.ring.specs.declared.rings.OfWidth.TheVariants.{Named, NoRing}
 use Rattle.gate.specs.Places.{Place, p0, p1, p2, tabled}
 use Rattle.circuit.specs.Circuits.{gates_of, moduli}
 use Rattle.machine.specs.Registers.{Kind, Public, bits, empty, kind_at, million, number, width_at}
@@ -66,9 +65,9 @@ is_bits empty = false
 is_bits (number r) = false
 is_bits (bits l) = true
 
-abbrev pub no_ring : OfWidth → Bool
-no_ring (Named r) = false
-no_ring NoRing = true
+abbrev pub no_ring : Option Ring → Bool
+no_ring (Some r) = false
+no_ring None = true
 
 -- "Add, multiply: 3 a source empty; 4 a source is bits; 6 rings differ"
 abbrev pub two_numbers : Kind → Kind → List Check

@@ -1,8 +1,7 @@
 -- 01, "The nine orders": what an order does once it is accepted, by what is public.
-use Rattle.std.specs.Prelude.{ℕ}
+use Rattle.std.specs.Prelude.{ℕ, Some, None, Option}
+use Rattle.ring.specs.declared.rings.Ring.{Ring}
 use Rattle.ring.specs.Rings.{modulus, ring_of}
-use Rattle.ring.specs.declared.rings.OfWidth.{OfWidth}
-use Rattle.ring.specs.declared.rings.OfWidth.TheVariants.{Named, NoRing}
 use Rattle.circuit.specs.Circuits.{Circuit}
 use Rattle.circuit.specs.Orders.{addition, composition, conversion, decomposition, multiplication, scaling, shifting}
 use Rattle.machine.specs.Registers.{Kind, Public, bits, count_at, empty, kind_at, number, width_at}
@@ -17,9 +16,9 @@ pub data Work : Type 1 where
   opens : (x : ℕ) → Work
 
 -- the kind of a number in the ring of a width
-abbrev pub number_kind : OfWidth → Kind
-number_kind (Named r) = number r
-number_kind NoRing = empty
+abbrev pub number_kind : Option Ring → Kind
+number_kind (Some r) = number r
+number_kind None = empty
 
 -- p of a register
 abbrev pub modulus_at : Public → ℕ → ℕ

@@ -7,5 +7,5 @@ mod orders;
 mod registers;
 
 pub use answers::{Answer, Refusal};
-pub use orders::{OfKind, Order};
+pub use orders::Order;
 pub use registers::{MILLION, Machine, Register, Slot};

@@ -16,28 +16,21 @@ pub enum Order {
     Open { x: u64 },
 }
 
-// An order by its kind, or a number that is no kind with three fields.
-#[derive(Clone, Copy)]
-pub enum OfKind {
-    Named(Order),
-    NoOrder,
-}
-
 impl Order {
     // The order of a kind and its three fields.
-    pub fn of_kind(kind: u64, a: u64, b: u64, c: u64) -> OfKind
+    pub fn of_kind(kind: u64, a: u64, b: u64, c: u64) -> Option<Order>
         ensures { result ≡ of_kind kind a b c }
     {
         match kind {
-            1 => OfKind::Named(Order::Deal { d: a, e: b, v: c }),
-            2 => OfKind::Named(Order::Add { d: a, x: b, y: c }),
-            3 => OfKind::Named(Order::Scale { d: a, x: b, c }),
-            4 => OfKind::Named(Order::Multiply { d: a, x: b, y: c }),
-            5 => OfKind::Named(Order::Decompose { d: a, x: b, l: c }),
-            6 => OfKind::Named(Order::Convert { d: a, x: b, f: c }),
-            7 => OfKind::Named(Order::Shift { d: a, x: b, s: c }),
-            8 => OfKind::Named(Order::Compose { d: a, x: b, f: c }),
-            _ => OfKind::NoOrder,
+            1 => Some(Order::Deal { d: a, e: b, v: c }),
+            2 => Some(Order::Add { d: a, x: b, y: c }),
+            3 => Some(Order::Scale { d: a, x: b, c }),
+            4 => Some(Order::Multiply { d: a, x: b, y: c }),
+            5 => Some(Order::Decompose { d: a, x: b, l: c }),
+            6 => Some(Order::Convert { d: a, x: b, f: c }),
+            7 => Some(Order::Shift { d: a, x: b, s: c }),
+            8 => Some(Order::Compose { d: a, x: b, f: c }),
+            _ => None,
         }
     }
 }

@@ -1,4 +1,5 @@
 -- Orders 2 to 8, each from its verdict and its sources as the code finds them.
+use Rattle.std.specs.Prelude.{Some, None, Option}
 use Prim.Native.Nat.{ℕ, ◌-◌, ◌<◌}
 use mathlib.Core.Bool.{Bool, false, not, true, ◌&&◌, ◌||◌}
 use mathlib.Core.List.{List, [], ◌∷◌, ◌++◌}
@@ -6,8 +7,6 @@ use mathlib.Core.Path.{◌≡◌, refl, ap, sym, ◌∙◌}
 use borrow.Author.Tests.{eqb-true, leb-false, leb-true, not-false}
 use lib.Dec.{eqb, leb}
 use Rattle.ring.specs.Rings.{modulus, modulus_of, ring_of, width_of}
-use Rattle.ring.specs.declared.rings.OfWidth.{OfWidth}
-use Rattle.ring.specs.declared.rings.OfWidth.TheVariants.{Named, NoRing}
 use Rattle.ring.specs.declared.rings.Ring.{Ring}
 use Rattle.ring.proofs.RangeLaw.{width_named}
 use Rattle.gate.specs.Places.{InRange}
@@ -37,9 +36,9 @@ bits-kind empty h = cc
 bits-kind (number r) h = cc
 bits-kind (bits l) h = refl
 
-ring_kind : (w : OfWidth) → no_ring w ≡ false → w ≡ Named (ring_at (number_kind w))
-ring_kind (Named r) h = refl
-ring_kind NoRing h = cc
+ring_kind : (w : Option Ring) → no_ring w ≡ false → w ≡ Some (ring_at (number_kind w))
+ring_kind (Some r) h = refl
+ring_kind None h = cc
 
 both_numbers : (k l : Kind) → first_met (two_numbers k l) ≡ 0 → (is_number k ≡ true) × (is_number l ≡ true) × (width_at k ≡ width_at l)
 both_numbers k l fine =
@@ -158,11 +157,11 @@ module _ (m : Machine) where
       let sure = good o fine in
       let more = check (no_ring (ring_of f)) 5 ∷ [] in
       let kind = number_at x more (kinds o fine) at ring in
-      let named = ring_kind (ring_of f) (unmet (no_ring (ring_of f)) 5 [] refl (later x more (kinds o fine))) ∙ ap Named (sym other) in
+      let named = ring_kind (ring_of f) (unmet (no_ring (ring_of f)) 5 [] refl (later x more (kinds o fine))) ∙ ap Some (sym other) in
       let same = ap shares_of (sym at) ∙ sym shares in
       gated o m d x x (task.Convert r g s) fine
       (ap (λ (k : Kind). computes (conversion (width_at k) f) d x x (number_kind (ring_of f))) kind
-      ∙ ap (λ (w : OfWidth). computes (conversion (width_of r) f) d x x (number_kind w)) named
+      ∙ ap (λ (w : Option Ring). computes (conversion (width_of r) f) d x x (number_kind w)) named
       ∙ ap (λ (w : ℕ). computes (conversion (width_of r) w) d x x (number g)) (width_named f named))
       same same (seated m sure d (x ∷ []) (there o fine))
       (source_in x more (kinds o fine) sure at ring shares)
@@ -275,13 +274,13 @@ module _ (m : Machine) where
       let full = unmet (is_empty k) 3 _ refl (kinds o fine) in
       let rest = unmet_rest (is_empty k) 3 _ refl (kinds o fine) in
       let last = unmet_rest (is_number k) 4 _ refl rest in
-      let named = ring_kind (ring_of f) (unmet (no_ring (ring_of f)) 5 [] refl last) ∙ ap Named (sym other) in
+      let named = ring_kind (ring_of f) (unmet (no_ring (ring_of f)) 5 [] refl last) ∙ ap Some (sym other) in
       let counted : count_at k ≡ l = ap count_at (sym (kind_of_lem x at)) ∙ sym count in
       let kind : k ≡ bits l = bits-kind k (is_bits_lem k full (unmet (is_number k) 4 _ refl rest)) ∙ ap bits counted in
       let same = ap shares_of (sym at) ∙ sym shares in
       gated o m d x x (task.Compose g s l) fine
       (ap (λ (n : ℕ). computes (composition f n) d x x (number_kind (ring_of f))) counted
-      ∙ ap (λ (w : OfWidth). computes (composition f l) d x x (number_kind w)) named
+      ∙ ap (λ (w : Option Ring). computes (composition f l) d x x (number_kind w)) named
       ∙ ap (λ (w : ℕ). computes (composition w l) d x x (number g)) (width_named f named))
       same same (seated m sure d (x ∷ []) (there o fine))
       (few_bits m sure x (sym (kind-at m x) ∙ kind))

@@ -10,7 +10,7 @@ ghost use Rattle.order.specs.Attempts.{begin_checks};
 
 use crate::answers::{Verdict, refuse_if};
 use machine::{MILLION, Refusal, Register};
-use ring::{OfWidth, Ring};
+use ring::Ring;
 
 // Checks 1 and 2, of an order that names up to three registers.
 fn begin(sound: bool, d: u64, x: u64, y: u64) -> Verdict
@@ -64,8 +64,8 @@ pub fn no_ring(e: u64) -> bool
 {
     let w = Ring::of_width(e);
     match w {
-        OfWidth::Named(_) => false,
-        OfWidth::NoRing => true,
+        Some(_) => false,
+        None => true,
     }
 }
 
@@ -102,8 +102,8 @@ pub fn ring_named(e: u64) -> Ring
 {
     let w = Ring::of_width(e);
     match w {
-        OfWidth::Named(r) => r,
-        OfWidth::NoRing => Ring::R13,
+        Some(r) => r,
+        None => Ring::R13,
     }
 }
 

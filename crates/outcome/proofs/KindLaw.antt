@@ -1,4 +1,5 @@
 -- What each accepted order leaves, by the kinds of its sources: sub-shares in range, and their value.
+use Rattle.std.specs.Prelude.{Some, None, Option}
 use Prim.Native.Nat.{ℕ, ◌+◌, ◌*◌, ◌-◌, ◌/◌, ◌%◌, ◌<◌, ◌≤◌, ◌^◌}
 use mathlib.Core.Bool.{and-eq-true_iff, false, not, true≢false, ◌&&◌, ◌||◌}
 use mathlib.Core.List.{List, [], ◌∷◌, ◌++◌}
@@ -9,8 +10,6 @@ use lib.Dec.{leb}
 use borrow.Author.Tests.{eqb-true, leb-false, leb-true, lt-leb, not-false}
 use Rattle.ring.specs.Modular.{diff}
 use Rattle.ring.specs.Rings.{modulus, quarter, ring_of, width_of}
-use Rattle.ring.specs.declared.rings.OfWidth.{OfWidth}
-use Rattle.ring.specs.declared.rings.OfWidth.TheVariants.{Named, NoRing}
 use Rattle.ring.specs.declared.rings.Ring.{Ring}
 use Rattle.ring.proofs.CongLaw.{cong_add, cong_of_eq, cong_refl, cong_trans, diff-add, diff-lt}
 use Rattle.ring.proofs.RangeLaw.{width_ge, width_le, width_named}
@@ -64,9 +63,9 @@ a_number_lem (bits l) h b = absurd (true≢false b)
 ring_of_lem : (e : ℕ) → no_ring (ring_of e) ≡ false → NumberOf (number_kind (ring_of e)) e
 ring_of_lem e = go (ring_of e) refl
   where
-    go : (w : OfWidth) → ring_of e ≡ w → no_ring w ≡ false → NumberOf (number_kind w) e
-    go (Named r) is h = record { ring = r; is = refl; width = sym (width_named e is) }
-    go NoRing is h = absurd (true≢false h)
+    go : (w : Option Ring) → ring_of e ≡ w → no_ring w ≡ false → NumberOf (number_kind w) e
+    go (Some r) is h = record { ring = r; is = refl; width = sym (width_named e is) }
+    go None is h = absurd (true≢false h)
 
 -- 0 is below the modulus of every ring
 pub zero_below : (e : ℕ) → no_ring (ring_of e) ≡ false → leb (modulus e) 0 ≡ false

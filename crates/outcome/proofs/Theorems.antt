@@ -1,4 +1,5 @@
 -- Demands 1 and 2 (specs/Theorems.antt).
+use Rattle.std.specs.Prelude.{Some}
 use Prim.Native.Nat.{ℕ, ◌+◌, ◌-◌, ◌%◌, ◌≤◌, ◌<◌}
 use mathlib.Core.Bool.{Bool, cond, false, not, true, true≢false}
 use mathlib.Core.List.{List, [], ◌∷◌, ◌++◌}
@@ -10,7 +11,6 @@ use lib.ListN.{get_or-eq_default, get_or, length, length-map, set}
 use lib.Seq.{get_or-drop, get_or-set_same}
 use borrow.Author.Tests.{le-ltb, leb-true, lt-leb, ltb-false}
 use Rattle.ring.specs.Rings.{modulus, modulus_of, ring_of, width_of}
-use Rattle.ring.specs.declared.rings.OfWidth.TheVariants.{Named}
 use Rattle.ring.specs.declared.rings.Ring.{Ring}
 use Rattle.ring.specs.declared.rings.Ring.TheVariants.{R13, R31, R61}
 use Rattle.gate.specs.Places.{Place}
@@ -114,7 +114,7 @@ public_refusal o m T c is-sound not-item =
     let first : (step o m T c).refusal ≡ first_met (public ++ (item ∷ [])) = refusal_is o m T c ∙ rw is-sound in
     first ∙ last_aside public item.met 10 (λ e. not-item (first ∙ e))
 
-ring_named : (r : Ring) → ring_of (width_of r) ≡ Named r
+ring_named : (r : Ring) → ring_of (width_of r) ≡ Some r
 unfolding ring_of
 ring_named R13 = refl
 ring_named R31 = refl

@@ -1,3 +1,5 @@
+use Rattle.std.specs.Prelude.{Some, None, Option}
+use Rattle.ring.specs.declared.rings.Ring.{Ring}
 -- Lists of gates with moduli below 2^61.
 use Prim.Native.Nat.{ℕ, zero, suc, ◌+◌, ◌-◌, ◌<◌, ◌^◌}
 use mathlib.Core.Bool.{false, true≢false}
@@ -5,8 +7,6 @@ use mathlib.Core.List.{List, ◌++◌, map}
 use mathlib.Core.Path.{◌≡◌, refl}
 use lib.Dec.{lit<}
 use Rattle.ring.specs.Rings.{modulus, ring_of}
-use Rattle.ring.specs.declared.rings.OfWidth.{OfWidth}
-use Rattle.ring.specs.declared.rings.OfWidth.TheVariants.{Named, NoRing}
 use Rattle.ring.proofs.RangeLaw.{modulus-lt, width_named}
 use Rattle.gate.specs.Places.{Place}
 use Rattle.circuit.specs.Circuits.{Gate, upto}
@@ -55,6 +55,6 @@ kind_narrow (bits l) = lit< tt
 pub ring_narrow : (e : ℕ) → no_ring (ring_of e) ≡ false → modulus e < 2 ^ 61
 ring_narrow e = go (ring_of e) refl
   where
-    go : (w : OfWidth) → ring_of e ≡ w → no_ring w ≡ false → modulus e < 2 ^ 61
-    go (Named r) is h = rw (width_named e is) (modulus-lt r)
-    go NoRing is h = absurd (true≢false h)
+    go : (w : Option Ring) → ring_of e ≡ w → no_ring w ≡ false → modulus e < 2 ^ 61
+    go (Some r) is h = rw (width_named e is) (modulus-lt r)
+    go None is h = absurd (true≢false h)

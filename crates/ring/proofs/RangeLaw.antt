@@ -1,4 +1,5 @@
 -- The three rings' numbers fit a word with room: what callers need of a modulus they know by its ring.
+use Rattle.std.specs.Prelude.{Some, None}
 use Prim.Native.Nat.{ℕ, ◌+◌, ◌*◌, ◌/◌, ◌<◌, ◌≤◌, ◌^◌}
 use mathlib.Core.Bool.{Bool, cond, false, true}
 use mathlib.Core.Path.{◌≡◌, refl, ap, ◌∙◌}
@@ -8,7 +9,6 @@ use borrow.Author.Tests.{eqb-true}
 use lib.Dec.{eqb, lit≤}
 use lib.Pow.{pow_mono}
 use Rattle.ring.specs.Rings.{Sized, modulus, modulus_of, quarter_of, ring_of, width_of}
-use Rattle.ring.specs.declared.rings.OfWidth.TheVariants.{Named, NoRing}
 use Rattle.ring.specs.declared.rings.Ring.{Ring}
 use Rattle.ring.specs.declared.rings.Ring.TheVariants.{R13, R31, R61}
 use Rattle.ring.proofs.Theorems.{modulus-suc, quarter_below}
@@ -30,12 +30,12 @@ width_odd R31 = refl
 width_odd R61 = refl
 
 -- the width of a ring that is named
-pub width_named : (e : ℕ) {r : Ring} → ring_of e ≡ Named r → e ≡ width_of r
+pub width_named : (e : ℕ) {r : Ring} → ring_of e ≡ Some r → e ≡ width_of r
 unfolding ring_of
 width_named e {r} named = go (eqb e 13) (eqb e 31) (eqb e 61) refl refl refl named
   where
     go : (a b c : Bool) → eqb e 13 ≡ a → eqb e 31 ≡ b → eqb e 61 ≡ c
-        → cond a (Named R13) (cond b (Named R31) (cond c (Named R61) NoRing)) ≡ Named r → e ≡ width_of r
+        → cond a (Some R13) (cond b (Some R31) (cond c (Some R61) None)) ≡ Some r → e ≡ width_of r
     go true b c h k l named = let q : R13 ≡ r = cc in eqb-true e 13 h ∙ ap width_of q
     go false true c h k l named = let q : R31 ≡ r = cc in eqb-true e 31 k ∙ ap width_of q
     go false false true h k l named = let q : R61 ≡ r = cc in eqb-true e 61 l ∙ ap width_of q

@@ -1,7 +1,5 @@
 -- 01, "Rings, parts and units": each ring has its width e and its modulus p = 2^e - 1.
-use Rattle.std.specs.Prelude.{ℕ, ◌+◌, ◌*◌, ◌-◌, ◌/◌, ◌%◌, ◌≤◌, ◌^◌, cond, ◌≡◌, eqb}
-use Rattle.ring.specs.declared.rings.OfWidth.{OfWidth}
-use Rattle.ring.specs.declared.rings.OfWidth.TheVariants.{Named, NoRing}
+use Rattle.std.specs.Prelude.{ℕ, ◌+◌, ◌*◌, ◌-◌, ◌/◌, ◌%◌, ◌≤◌, ◌^◌, cond, ◌≡◌, eqb, Some, None, Option}
 use Rattle.ring.specs.declared.rings.Ring.{Ring}
 use Rattle.ring.specs.declared.rings.Ring.TheVariants.{R13, R31, R61}
 
@@ -38,8 +36,8 @@ abbrev pub quarter_of : Ring → ℕ
 quarter_of r = quarter (width_of r)
 
 -- the ring of a width, where there is one
-unfoldable pub ring_of : ℕ → OfWidth
-ring_of e = cond (eqb e 13) (Named R13) (cond (eqb e 31) (Named R31) (cond (eqb e 61) (Named R61) NoRing))
+unfoldable pub ring_of : ℕ → Option Ring
+ring_of e = cond (eqb e 13) (Some R13) (cond (eqb e 31) (Some R31) (cond (eqb e 61) (Some R61) None))
 
 -- a width and a modulus as numbers: what code that is given both knows of them; used by contracts alone
 pub record Sized (e p : ℕ) : Type 0 where

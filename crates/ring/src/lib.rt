@@ -8,4 +8,4 @@ mod rings;
 
 pub use bits::bit;
 pub use modular::{add_mod, add_rotated, mul_add_mod, mul_mod, reduce_once, reduce_short};
-pub use rings::{OfWidth, Ring};
+pub use rings::Ring;

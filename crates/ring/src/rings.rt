@@ -10,13 +10,6 @@ pub enum Ring {
     R61,
 }
 
-// What a width names.
-#[derive(Clone, Copy)]
-pub enum OfWidth {
-    Named(Ring),
-    NoRing,
-}
-
 impl Ring {
     pub const WIDTH_13: u64 = 13;
 
@@ -40,19 +33,19 @@ impl Ring {
     pub const U: u64 = 2;
 
     // The ring of a width, where there is one.
-    pub fn of_width(e: u64) -> OfWidth
+    pub fn of_width(e: u64) -> Option<Ring>
         ensures { result ≡ ring_of e }
     {
         if e == Ring::WIDTH_13 {
-            return OfWidth::Named(Ring::R13);
+            return Some(Ring::R13);
         }
         if e == Ring::WIDTH_31 {
-            return OfWidth::Named(Ring::R31);
+            return Some(Ring::R31);
         }
         if e == Ring::WIDTH_61 {
-            return OfWidth::Named(Ring::R61);
+            return Some(Ring::R61);
         }
-        OfWidth::NoRing
+        None
     }
 
     // e.

@@ -1,10 +1,10 @@
 -- What each ring code asks for.
+use Rattle.std.specs.Prelude.{Some, None}
 use Prim.Native.Nat.{ℕ}
 use mathlib.Core.Path.{◌≡◌}
 use mathlib.Core.List.{List}
 use borrow.Author.Tests.{eq-eqb, ne_eqb}
 use lib.ListN.{length}
-use Rattle.ring.specs.declared.rings.OfWidth.TheVariants.{Named, NoRing}
 use Rattle.ring.specs.declared.rings.Ring.{Ring}
 use Rattle.ring.specs.Rings.{modulus_of, ring_of, width_of}
 use Rattle.tape.specs.Tapes.{fill, kind_of, prepared, refused, settled}
@@ -14,11 +14,11 @@ module _ (code : ℕ) (raw run : List ℕ) where
   unfolding prepared kind_of
   bits-asked is = rw (eq-eqb code 1)
 
-  pub ring_asked : {r : Ring} → (code ≡ 1 → ⊥) → ring_of code ≡ Named r
+  pub ring_asked : {r : Ring} → (code ≡ 1 → ⊥) → ring_of code ≡ Some r
       → prepared code raw run ≡ settled run (fill (width_of r) (modulus_of r) (length run) 0 raw)
   unfolding prepared kind_of
   ring_asked not is = rw (ne_eqb code 1, is)
 
-  pub other-asked : (code ≡ 1 → ⊥) → ring_of code ≡ NoRing → prepared code raw run ≡ refused 5 run
+  pub other-asked : (code ≡ 1 → ⊥) → ring_of code ≡ None → prepared code raw run ≡ refused 5 run
   unfolding prepared kind_of
   other-asked not is = rw (ne_eqb code 1, is)

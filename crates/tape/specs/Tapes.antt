@@ -1,7 +1,6 @@
 -- 01, "Preparing a tape".
-use Rattle.std.specs.Prelude.{ℕ, zero, suc, ◌%◌, ◌^◌, cond, List, [], ◌∷◌, eqb, ltb, length}
-use Rattle.ring.specs.declared.rings.OfWidth.{OfWidth}
-use Rattle.ring.specs.declared.rings.OfWidth.TheVariants.{Named, NoRing}
+use Rattle.std.specs.Prelude.{ℕ, zero, suc, ◌%◌, ◌^◌, cond, List, [], ◌∷◌, eqb, ltb, length, Some, None, Option}
+use Rattle.ring.specs.declared.rings.Ring.{Ring}
 use Rattle.ring.specs.Rings.{modulus_of, ring_of, width_of}
 use Rattle.tape.specs.declared.tapes.Prepared.{Prepared}
 use Rattle.tape.specs.declared.tapes.Prepared.TheVariants as answer
@@ -12,9 +11,9 @@ pub data Kind : Type 0 where
   other : Kind
 
 -- "For a ring the low e bits .., all ones being dropped": all ones is p itself
-abbrev pub kind_of_ring : OfWidth → Kind
-kind_of_ring (Named r) = items (width_of r) (modulus_of r)
-kind_of_ring NoRing = other
+abbrev pub kind_of_ring : Option Ring → Kind
+kind_of_ring (Some r) = items (width_of r) (modulus_of r)
+kind_of_ring None = other
 
 -- "for bits (ring code 1) the lowest bit": each of the two fits
 unfoldable pub kind_of : ℕ → Kind

@@ -4,7 +4,7 @@ ghost use Rattle.ring.specs.Lent.{Stands};
 ghost use Rattle.tape.specs.Tapes.{count_of, fill, outcome, prepared, refusal_of, settled};
 
 use crate::passes::{enough, fill_run};
-use ring::{OfWidth, Ring};
+use ring::Ring;
 
 // What came of a preparation.
 #[derive(Clone, Copy)]
@@ -59,11 +59,11 @@ pub fn prepare(code: u64, raw: &[u64], run: &mut [u64]) -> Prepared
         return prepare_items(1, 2, raw, run);
     }
     match Ring::of_width(code) {
-        OfWidth::Named(ring) => {
+        Some(ring) => {
             let width = ring.width();
             let limit = ring.modulus();
             prepare_items(width, limit, raw, run)
         }
-        OfWidth::NoRing => Prepared::NoRing,
+        None => Prepared::NoRing,
     }
 }

@@ -1,4 +1,5 @@
 -- One gate more on a chain, and the tests that start one.
+use Rattle.std.specs.Prelude.{Some, None, Option}
 use Prim.Native.Nat.{ℕ, suc, ◌+◌, ◌*◌, ◌-◌, ◌/◌, ◌≤◌, ◌<◌}
 use mathlib.Core.Bool.{Bool, ◌&&◌, and-eq-true_iff, cond, false, true}
 use mathlib.Core.List.{List, [], ◌++◌, ◌∷◌, append_assoc, append-nil, map, map-append}
@@ -13,8 +14,6 @@ use lib.Seq.{drop-cons, set_at}
 use Rattle.gate.specs.declared.sharing.Sharing.{Sharing}
 use Rattle.gate.specs.Places.{InRange, Place, Sent, p0, p1, p2, parts, three}
 use Rattle.gate.proofs.PlaceLaw.{each}
-use Rattle.ring.specs.declared.rings.OfWidth.{OfWidth}
-use Rattle.ring.specs.declared.rings.OfWidth.TheVariants.{Named, NoRing}
 use Rattle.ring.specs.declared.rings.Ring.{Ring}
 use Rattle.ring.specs.Rings.{modulus_of, ring_of}
 use Rattle.timing.specs.Chains.{Ran, chain, gate_of, gates, in_range, shaped, started, triple_at, written}
@@ -117,12 +116,12 @@ pub started_as : {p q : ℕ} {a b told : Bool} (x y : Sharing) (items : List ℕ
 unfolding started
 started_as x y items n hp ha hb test = rw (← hp, ← ha, ← hb, test)
 
-module _ (width : ℕ) (x y items : List ℕ) (c : Place → List ℕ) {found : OfWidth} (is : found ≡ ring_of width) where
-  pub no_ring_lem : found ≡ NoRing → Ran (gates width x y items c) 0 c c
+module _ (width : ℕ) (x y items : List ℕ) (c : Place → List ℕ) {found : Option Ring} (is : found ≡ ring_of width) where
+  pub no_ring_lem : found ≡ None → Ran (gates width x y items c) 0 c c
   unfolding gates
   no_ring_lem none = rw (← is, none) (nothing c)
 
-  module _ {r : Ring} {fit : Bool} (named : found ≡ Named r)
+  module _ {r : Ring} {fit : Bool} (named : found ≡ Some r)
       (test : fit ≡ shaped (length x) (length y) (length items) (length (c p0)) (length (c p1)) (length (c p2))) where
     pub misfit : fit ≡ false → Ran (gates width x y items c) 0 c c
     unfolding gates

@@ -1,4 +1,5 @@
 -- Products, one index at a time.
+use Rattle.std.specs.Prelude.{Some, None, Option}
 use Prim.Native.Nat.{ℕ, ◌+◌, ◌*◌, ◌%◌, ◌≤◌, ◌<◌}
 use mathlib.Core.Bool.{Bool, and-eq-true_iff, false, true}
 use mathlib.Core.Path.{◌≡◌, ◌∙◌, sym}
@@ -7,8 +8,6 @@ use native.Mathlib.Numerals.{add-one}
 use borrow.Author.Tests.{eqb-true, le-ltb, lt-ltb}
 use lib.ListN.{drop, drop_of_length-le, get_or, length, set, take}
 use lib.Seq.{drop-cons, take_all, take-suc-set}
-use Rattle.ring.specs.declared.rings.OfWidth.{OfWidth}
-use Rattle.ring.specs.declared.rings.OfWidth.TheVariants.{Named, NoRing}
 use Rattle.ring.specs.declared.rings.Ring.{Ring}
 use Rattle.ring.specs.Rings.{modulus_of, ring_of}
 use Rattle.timing.specs.Products.{alike, multiplied, outcome, product, products}
@@ -36,12 +35,12 @@ module _ (p : ℕ) (xs ys zs : List ℕ) (i : ℕ) where
   unfolding products
   all_done hx hz = rw (drop_of_length-le xs, take_all, append-nil)
 
-module _ (width : ℕ) (xs ys zs : List ℕ) {found : OfWidth} (is : found ≡ ring_of width) where
-  pub no_ring_lem : found ≡ NoRing → outcome 0 zs ≡ multiplied width xs ys zs
+module _ (width : ℕ) (xs ys zs : List ℕ) {found : Option Ring} (is : found ≡ ring_of width) where
+  pub no_ring_lem : found ≡ None → outcome 0 zs ≡ multiplied width xs ys zs
   unfolding multiplied
   no_ring_lem none = rw (← is, none)
 
-  module _ {r : Ring} {fit : Bool} (named : found ≡ Named r) (test : fit ≡ alike (length xs) (length ys) (length zs)) where
+  module _ {r : Ring} {fit : Bool} (named : found ≡ Some r) (test : fit ≡ alike (length xs) (length ys) (length zs)) where
     pub misfit : fit ≡ false → outcome 0 zs ≡ multiplied width xs ys zs
     unfolding multiplied
     misfit said = rw (← is, named, ← test, said)

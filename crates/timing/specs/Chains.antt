@@ -1,8 +1,7 @@
 -- What timing_gate answers and leaves.
 -- Used by the code's contracts alone: no theorem's statement speaks of it.
-use Rattle.std.specs.Prelude.{ℕ, zero, suc, ◌+◌, ◌*◌, ◌/◌, ◌≤◌, Bool, ◌&&◌, cond, List, [], ◌++◌, ◌∷◌, map, ◌≡◌, eqb, leb, ltb, drop, get_or, length}
-use Rattle.ring.specs.declared.rings.OfWidth.{OfWidth}
-use Rattle.ring.specs.declared.rings.OfWidth.TheVariants.{Named, NoRing}
+use Rattle.std.specs.Prelude.{ℕ, zero, suc, ◌+◌, ◌*◌, ◌/◌, ◌≤◌, Bool, ◌&&◌, cond, List, [], ◌++◌, ◌∷◌, map, ◌≡◌, eqb, leb, ltb, drop, get_or, length, Some, None, Option}
+use Rattle.ring.specs.declared.rings.Ring.{Ring}
 use Rattle.ring.specs.Rings.{modulus_of, ring_of}
 use Rattle.gate.specs.declared.sharing.Sharing.{Sharing}
 use Rattle.gate.specs.Gates.{gated}
@@ -38,13 +37,13 @@ started p x y items n = cond (in_range p x && in_range p y) (chain p y items n 0
 unfoldable pub shaped : ℕ → ℕ → ℕ → ℕ → ℕ → ℕ → Bool
 shaped x y items n₀ n₁ n₂ = eqb x 3 && eqb y 3 && alike n₁ n₂ n₀ && leb n₀ (items / 3)
 
-abbrev pub gates_in : OfWidth → (x y items : List ℕ) → (Place → List ℕ) → List Sharing
-gates_in (Named r) x y items c =
+abbrev pub gates_in : Option Ring → (x y items : List ℕ) → (Place → List ℕ) → List Sharing
+gates_in (Some r) x y items c =
     cond
     (shaped (length x) (length y) (length items) (length (c p0)) (length (c p1)) (length (c p2)))
     (started (modulus_of r) (triple_at x 0) (triple_at y 0) items (length (c p0)))
     []
-gates_in NoRing x y items c = []
+gates_in None x y items c = []
 
 -- the gates done
 unfoldable pub gates : ℕ → (x y items : List ℕ) → (Place → List ℕ) → List Sharing

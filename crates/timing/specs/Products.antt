@@ -1,8 +1,7 @@
 -- What timing_multiply answers and leaves.
 -- Used by the code's contracts alone: no theorem's statement speaks of it.
-use Rattle.std.specs.Prelude.{ℕ, ◌*◌, ◌%◌, Bool, ◌&&◌, cond, List, [], ◌∷◌, eqb, ltb, length}
-use Rattle.ring.specs.declared.rings.OfWidth.{OfWidth}
-use Rattle.ring.specs.declared.rings.OfWidth.TheVariants.{Named, NoRing}
+use Rattle.std.specs.Prelude.{ℕ, ◌*◌, ◌%◌, Bool, ◌&&◌, cond, List, [], ◌∷◌, eqb, ltb, length, Some, None, Option}
+use Rattle.ring.specs.declared.rings.Ring.{Ring}
 use Rattle.ring.specs.Rings.{modulus_of, ring_of}
 
 -- both lengths are n
@@ -27,10 +26,10 @@ pub record Outcome : Type 0 where
 abbrev pub outcome : ℕ → List ℕ → Outcome
 outcome answer words = record { answer = answer; words = words }
 
-abbrev pub multiplied_in : OfWidth → List ℕ → List ℕ → List ℕ → Outcome
-multiplied_in (Named r) xs ys zs =
+abbrev pub multiplied_in : Option Ring → List ℕ → List ℕ → List ℕ → Outcome
+multiplied_in (Some r) xs ys zs =
     cond (alike (length xs) (length ys) (length zs)) (outcome (length zs) (products (modulus_of r) xs ys)) (outcome 0 zs)
-multiplied_in NoRing xs ys zs = outcome 0 zs
+multiplied_in None xs ys zs = outcome 0 zs
 
 -- where the width is a ring's and the lengths are equal; anything else leaves the third slice
 unfoldable pub multiplied : ℕ → List ℕ → List ℕ → List ℕ → Outcome

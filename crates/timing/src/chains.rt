@@ -8,7 +8,7 @@ ghost use Rattle.timing.specs.Chains.{Ran, Shape, chain, gates, in_range, shaped
 
 use crate::products::same_lengths;
 use gate::{Sharing, ring_gate};
-use ring::{OfWidth, Ring};
+use ring::Ring;
 
 // The three words of ws at `at` and on.
 fn triple(ws: &[u64], at: usize) -> Sharing
@@ -102,7 +102,7 @@ pub extern "C" fn timing_gate(
     ensures lent { Stands x × Stands y × Stands items }
 {
     match Ring::of_width(width) {
-        OfWidth::Named(r) => {
+        Some(r) => {
             if lengths_fit(x.len(), y.len(), items.len(), c0.len(), c1.len(), c2.len()) {
                 let from = triple(x, 0);
                 let by = triple(y, 0);
@@ -110,6 +110,6 @@ pub extern "C" fn timing_gate(
             }
             0
         }
-        OfWidth::NoRing => 0,
+        None => 0,
     }
 }

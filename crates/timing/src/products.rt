@@ -4,7 +4,7 @@ ghost use Rattle.ring.specs.Lent.{Stands};
 ghost use Rattle.ring.specs.Rings.{Sized, modulus_of};
 ghost use Rattle.timing.specs.Products.{alike, multiplied, outcome, product, products};
 
-use ring::{OfWidth, Ring, mul_mod};
+use ring::{Ring, mul_mod};
 
 // Whether both lengths are n.
 pub fn same_lengths(a: usize, b: usize, n: usize) -> bool
@@ -48,13 +48,13 @@ pub extern "C" fn timing_multiply(width: u64, xs: &[u64], ys: &[u64], zs: &mut [
     ensures lent { Stands xs × Stands ys }
 {
     match Ring::of_width(width) {
-        OfWidth::Named(r) => {
+        Some(r) => {
             if same_lengths(xs.len(), ys.len(), zs.len()) {
                 multiply_all(r, xs, ys, zs);
                 return zs.len() as u64;
             }
             0
         }
-        OfWidth::NoRing => 0,
+        None => 0,
     }
 }

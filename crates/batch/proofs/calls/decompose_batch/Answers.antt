@@ -19,8 +19,8 @@ returns-then-not_count c =
       lent = (refl, refl, refl, refl, refl, refl);
     }
 
-pub returns-in-NoRing : goal.returns-in-NoRing
-returns-in-NoRing c =
+pub returns-in-None : goal.returns-in-None
+returns-in-None c =
     let a = c.args in
     let shares : Place → List ℕ = three a.a0.now a.a1.now a.a2.now in
     let masks : Place → List ℕ = three a.m0.now a.m1.now a.m2.now in
@@ -28,7 +28,7 @@ returns-in-NoRing c =
     let results : Place → List ℕ = three a.z0.now a.z1.now a.z2.now in
     record {
       is = ring_met a.e a.l shares masks channels results c.not_count.ensures c.not_count-2.ensures c.if-not_count.false
-          (sym c.batch_ring.ensures ∙ c.in-NoRing.is);
+          (sym c.batch_ring.ensures ∙ c.in-None.is);
       lent = (refl, refl, refl, refl, refl, refl);
     }
 
@@ -37,8 +37,8 @@ in_ring-requires c =
     let both = neither _ _ c.if-not_count.false in
     record { lengths = counts _ _ _ c.not_count.ensures both.0; results = counts _ _ _ c.not_count-2.ensures both.1 }
 
-pub returns-in-Named : goal.returns-in-Named
-returns-in-Named c =
+pub returns-in-Some : goal.returns-in-Some
+returns-in-Some c =
     let a = c.args in
     let shares : Place → List ℕ = three a.a0.now a.a1.now a.a2.now in
     let masks : Place → List ℕ = three a.m0.now a.m1.now a.m2.now in
@@ -46,6 +46,6 @@ returns-in-Named c =
     let results : Place → List ℕ = three a.z0.now a.z1.now a.z2.now in
     record {
       is = figures-left a.e a.l shares masks channels results c.not_count.ensures c.not_count-2.ensures
-          c.if-not_count.false (sym c.batch_ring.ensures ∙ c.in-Named.is) c.in_ring.ensures;
+          c.if-not_count.false (sym c.batch_ring.ensures ∙ c.in-Some.is) c.in_ring.ensures;
       lent = (refl, refl, refl, refl, refl, refl);
     }

@@ -10,14 +10,14 @@ returns-then-not-sound c = let a = c.args in unsound a.sound a.d _ (ap not c.if-
 pub returns-then-d-gt15 : goal.returns-then-d-gt15
 returns-then-d-gt15 c = let a = c.args in above a.sound a.d _ (ap not c.if-not-sound.false) c.if-d-gt15.true
 
-pub returns-in-NoRing : goal.returns-in-NoRing
-returns-in-NoRing c =
+pub returns-in-None : goal.returns-in-None
+returns-in-None c =
     let a = c.args in
     no_ring_lem a.sound a.at a.d a.e a.v a.n a.r0 a.r1 (ap not c.if-not-sound.false) c.if-d-gt15.false c.of_width-w.ensures
-    c.in-NoRing.is
+    c.in-None.is
 
-pub returns-in-Named : goal.returns-in-Named
-returns-in-Named c =
+pub returns-in-Some : goal.returns-in-Some
+returns-in-Some c =
     let a = c.args in
     in_ring a.sound a.at a.d a.e a.v a.n a.r0 a.r1 (ap not c.if-not-sound.false) c.if-d-gt15.false c.of_width-w.ensures
-    c.in-Named.is c.modulus.ensures c.number_why.ensures
+    c.in-Some.is c.modulus.ensures c.number_why.ensures

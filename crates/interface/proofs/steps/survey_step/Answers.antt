@@ -43,19 +43,19 @@ step_words-given-requires c =
 pub write_answer-requires : goal.write_answer-requires
 write_answer-requires c = c.if-answer-ne3.false
 
-pub returns-in-NoOrder : goal.returns-in-NoOrder
-returns-in-NoOrder c =
+pub returns-in-None : goal.returns-in-None
+returns-in-None c =
     let a = c.args in
     let words : List ℕ = a.«record».now in
     let lent : Tapes = record { masks = three a.m0.now a.m1.now a.m2.now; dealer = a.dealer.now } in
     let channels : Place → List ℕ = three a.c0.now a.c1.now a.c2.now in
     record {
-      is = order_unread a.order.now words a.answer.now lent channels (sym c.read_order.ensures ∙ c.in-NoOrder.is);
+      is = order_unread a.order.now words a.answer.now lent channels (sym c.read_order.ensures ∙ c.in-None.is);
       lent = (refl, (refl, refl, refl, refl));
     }
 
-pub returns-in-Named : goal.returns-in-Named
-returns-in-Named c =
+pub returns-in-Some : goal.returns-in-Some
+returns-in-Some c =
     let a = c.args in
     let words : List ℕ = a.«record».now in
     let lent : Tapes = record { masks = three a.m0.now a.m1.now a.m2.now; dealer = a.dealer.now } in
@@ -64,9 +64,9 @@ returns-in-Named c =
     let says = said words seen.0 seen.1 in
     let after : Place → List ℕ = three c.step_words-given.new.c0 c.step_words-given.new.c1 c.step_words-given.new.c2 in
     record {
-      is = step_left {c = after} {x = step c.in-Named.o seen.0 lent channels}
+      is = step_left {c = after} {x = step c.in-Some.o seen.0 lent channels}
           (c.step_words-given.ensures.is seen.0 says seen.2) c.refusal.ensures c.write_answer.ensures
           ∙ step-read a.order.now words a.answer.now lent channels c.if-answer-ne3.false
-          (sym c.read_order.ensures ∙ c.in-Named.is) seen.1;
+          (sym c.read_order.ensures ∙ c.in-Some.is) seen.1;
       lent = (refl, (refl, refl, refl, refl));
     }

@@ -8,12 +8,12 @@ pub returns-then-kind-eq0 : goal.returns-then-kind-eq0
 unfolding with_three
 returns-then-kind-eq0 c = rw (eq-eqb _ _ c.if-kind-eq0.true)
 
-pub returns-in-Named : goal.returns-in-Named
+pub returns-in-Some : goal.returns-in-Some
 unfolding with_three
-returns-in-Named c =
-    rw (ne_eqb _ _ c.if-kind-eq0.false) (ap order_or (sym c.in-Named.is ∙ c.of_kind.ensures))
+returns-in-Some c =
+    rw (ne_eqb _ _ c.if-kind-eq0.false) (ap order_or (sym c.in-Some.is ∙ c.of_kind.ensures))
 
-pub returns-in-NoOrder : goal.returns-in-NoOrder
+pub returns-in-None : goal.returns-in-None
 unfolding with_three
-returns-in-NoOrder c =
-    rw (ne_eqb _ _ c.if-kind-eq0.false) (ap order_or (sym c.in-NoOrder.is ∙ c.of_kind.ensures))
+returns-in-None c =
+    rw (ne_eqb _ _ c.if-kind-eq0.false) (ap order_or (sym c.in-None.is ∙ c.of_kind.ensures))

@@ -12,7 +12,7 @@ start_chain-requires c =
 pub returns-then-lengths_fit : goal.returns-then-lengths_fit
 returns-then-lengths_fit c =
     record {
-      is = ran-all _ _ _ _ _ c.of_width.ensures c.in-Named.is c.lengths_fit.ensures
+      is = ran-all _ _ _ _ _ c.of_width.ensures c.in-Some.is c.lengths_fit.ensures
           c.if-lengths_fit.true c.triple-from.ensures c.triple-by.ensures c.start_chain.ensures;
       lent = (refl, refl, refl);
     }
@@ -20,7 +20,7 @@ returns-then-lengths_fit c =
 pub returns-else-lengths_fit : goal.returns-else-lengths_fit
 returns-else-lengths_fit c =
     record {
-      is = misfit _ _ _ _ _ c.of_width.ensures c.in-Named.is c.lengths_fit.ensures c.if-lengths_fit.false;
+      is = misfit _ _ _ _ _ c.of_width.ensures c.in-Some.is c.lengths_fit.ensures c.if-lengths_fit.false;
       lent = (refl, refl, refl);
     }
 
@@ -32,6 +32,6 @@ pub triple-by-requires : goal.triple-by-requires
 triple-by-requires c =
     omega (arith, fitting c.lengths_fit.ensures c.if-lengths_fit.true)
 
-pub returns-in-NoRing : goal.returns-in-NoRing
-returns-in-NoRing c =
-    record { is = no_ring_lem _ _ _ _ _ c.of_width.ensures c.in-NoRing.is; lent = (refl, refl, refl) }
+pub returns-in-None : goal.returns-in-None
+returns-in-None c =
+    record { is = no_ring_lem _ _ _ _ _ c.of_width.ensures c.in-None.is; lent = (refl, refl, refl) }

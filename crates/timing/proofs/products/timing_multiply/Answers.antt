@@ -10,15 +10,15 @@ multiply_all-requires c =
 pub returns-then-same_lengths : goal.returns-then-same_lengths
 returns-then-same_lengths c =
     record {
-      is = filled _ _ _ _ c.of_width.ensures c.in-Named.is c.same_lengths.ensures
+      is = filled _ _ _ _ c.of_width.ensures c.in-Some.is c.same_lengths.ensures
           _ c.if-same_lengths.true c.multiply_all.auto.zs c.multiply_all.ensures;
       lent = (refl, refl);
     }
 
 pub returns-else-same_lengths : goal.returns-else-same_lengths
 returns-else-same_lengths c =
-    record { is = misfit _ _ _ _ c.of_width.ensures c.in-Named.is c.same_lengths.ensures c.if-same_lengths.false; lent = (refl, refl) }
+    record { is = misfit _ _ _ _ c.of_width.ensures c.in-Some.is c.same_lengths.ensures c.if-same_lengths.false; lent = (refl, refl) }
 
-pub returns-in-NoRing : goal.returns-in-NoRing
-returns-in-NoRing c =
-    record { is = no_ring_lem _ _ _ _ c.of_width.ensures c.in-NoRing.is; lent = (refl, refl) }
+pub returns-in-None : goal.returns-in-None
+returns-in-None c =
+    record { is = no_ring_lem _ _ _ _ c.of_width.ensures c.in-None.is; lent = (refl, refl) }
