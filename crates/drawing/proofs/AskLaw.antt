@@ -4,7 +4,6 @@ use Prim.Native.Nat.{ℕ, suc, ◌+◌, ◌-◌, ◌*◌, ◌≤◌, ◌<◌, �
 use mathlib.Core.Path.{◌≡◌, refl, ap, sym, ◌∙◌}
 use mathlib.Core.Bool.{Bool, true, false, cond, not, ◌&&◌, ◌||◌}
 use mathlib.Core.List.{List, [], ◌∷◌, ◌++◌, append_assoc, append-nil}
-use mathlib.Core.Option.{none}
 use native.Mathlib.Numerals.{add-one}
 use native.Mathlib.Omega.{arith}
 use borrow.Author.Tests.{eq-eqb, eqb-true, eqb-false, le-ltb, lt-ltb, ltb-false, ltb-true, ne_eqb}
@@ -101,7 +100,7 @@ too_large : (s : Bool) (f : List ℕ) (b : ℕ) → (ltb (length f) 20 && ltb (n
 unfolding digit_on
 too_large s f b e = rw e
 
-stops : (bs f : List ℕ) → fits f ≡ false → number_of (f ++ bs) ≡ none
+stops : (bs f : List ℕ) → fits f ≡ false → number_of (f ++ bs) ≡ None
 stops [] f h = rw append-nil (number_unfit f h)
 stops (b ∷ bs) f h = ap number_of (sym (append_assoc f (b ∷ []) bs)) ∙ stops bs (f ++ (b ∷ [])) (unfit_more f b h)
 

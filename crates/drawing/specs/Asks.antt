@@ -1,7 +1,6 @@
 -- What the three arguments ask for: a ring code of 01, "Preparing a tape", a count of lines, and their kind.
 -- Used by the code's contracts alone: no theorem's statement speaks of it.
-use Rattle.std.specs.Prelude.{ℕ, ◌≤◌, Bool, cond, false, not, true, ◌&&◌, ◌||◌, List, [], ◌∷◌, eqb, ltb}
-use Rattle.std.proofs.Math.Option.{Option, none, some}
+use Rattle.std.specs.Prelude.{ℕ, ◌≤◌, Bool, cond, false, not, true, ◌&&◌, ◌||◌, List, [], ◌∷◌, eqb, ltb, Some, None, Option}
 use Rattle.line.specs.Lines.{number_of}
 use Rattle.line.specs.declared.readings.Reading.{Reading}
 use Rattle.tape.specs.Tapes as tapes
@@ -15,8 +14,8 @@ use Rattle.drawing.specs.declared.lines.Kind.TheVariants.{Dealer, Masks}
 
 -- "decimal of 1 to 20 digits", as in a job line
 abbrev pub told : Option ℕ → Number
-told (some n) = Read n
-told none = NoNumber
+told (Some n) = Read n
+told None = NoNumber
 
 -- the number of what was read as one field
 unfoldable pub number_in : Reading → Number

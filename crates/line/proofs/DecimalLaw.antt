@@ -1,9 +1,9 @@
 -- Decimals: their digits one by one, how many there are, and that they read back.
+use Rattle.std.specs.Prelude.{Some}
 use Prim.Native.Nat.{ℕ, zero, suc, ◌+◌, ◌/◌, ◌%◌, ◌≤◌, ◌<◌, ◌^◌}
 use mathlib.Core.Path.{◌≡◌, refl, sym, ap, ◌∙◌}
 use mathlib.Core.Bool.{true}
 use mathlib.Core.List.{List, [], ◌∷◌, ◌++◌}
-use mathlib.Core.Option.{some}
 use native.Mathlib.Nat.{pow-suc}
 use native.Mathlib.Omega.{arith}
 use borrow.Author.Tests.{le-leb, le-ltb, lt-ltb, ltb-false, ltb-true}
@@ -107,7 +107,7 @@ fit_decimal n h =
 pub reads_back : ReadsBack
 unfolding decimal
 reads_back n h =
-    number_fit (fit_decimal n h) (λ none. omega (arith, some_by (suc n) n (omega arith))) ∙ ap some (number_by (suc n) n (omega arith))
+    number_fit (fit_decimal n h) (λ none. omega (arith, some_by (suc n) n (omega arith))) ∙ ap Some (number_by (suc n) n (omega arith))
 
 -- one digit, or one more than a tenth has
 pub one-digit : (n : ℕ) → n ≤ 9 → length (decimal n) ≡ 1

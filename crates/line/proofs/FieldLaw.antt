@@ -1,9 +1,9 @@
 -- A field of a line: digits that fit so far, and what one more byte does to them.
+use Rattle.std.specs.Prelude.{Some, None}
 use Prim.Native.Nat.{ℕ, ◌+◌, ◌-◌, ◌*◌, ◌≤◌, ◌<◌, ◌^◌}
 use mathlib.Core.Path.{◌≡◌, refl}
 use mathlib.Core.Bool.{Bool, true, false, and-false, and-true, ◌&&◌}
 use mathlib.Core.List.{List, [], ◌∷◌, ◌++◌}
-use mathlib.Core.Option.{none, some}
 use native.Mathlib.Omega.{arith}
 use borrow.Author.Tests.{le-leb, leb-true, lt-ltb, ltb-true}
 use lib.Dec.{eqb, leb, ltb}
@@ -97,20 +97,20 @@ module _ (f : List ℕ) (b : ℕ) where
       contrary (both_true (lt-ltb _ _ room) (lt-ltb _ _ (rw larger at g.below))) h)
 
 -- the number of a field
-pub number_none : (f : List ℕ) → length f ≡ 0 → number_of f ≡ none
+pub number_none : (f : List ℕ) → length f ≡ 0 → number_of f ≡ None
 unfolding number_of
 number_none f h = rw h
 
-pub number_unfit : (f : List ℕ) → fits f ≡ false → number_of f ≡ none
+pub number_unfit : (f : List ℕ) → fits f ≡ false → number_of f ≡ None
 unfolding number_of
 number_unfit f h = rw (h, and-false)
 
-pub number_fit : {f : List ℕ} → Fit f → (length f ≡ 0 → ⊥) → number_of f ≡ some (number_from 0 f)
+pub number_fit : {f : List ℕ} → Fit f → (length f ≡ 0 → ⊥) → number_of f ≡ Some (number_from 0 f)
 unfolding number_of
 number_fit {f} h some-digit = rw (fit_true h, le-leb 1 (length f) (omega arith))
 
 -- a field that cannot be read spoils the line
-pub unreadable : (f bs : List ℕ) → fits f ≡ false → numbers_of (fields_from f bs) ≡ none
+pub unreadable : (f bs : List ℕ) → fits f ≡ false → numbers_of (fields_from f bs) ≡ None
 unfolding fields_from numbers_of
 unreadable f [] h = rw number_unfit
 unreadable f (b ∷ bs) h =

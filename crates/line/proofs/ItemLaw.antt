@@ -1,9 +1,8 @@
 use Rattle.std.specs.Prelude.{Some, None, Option}
-use Rattle.machine.specs.declared.orders.Order.{Order}
+use Rattle.machine.specs.declared.orders.Order.{Order as AnOrder}
 -- The numbers that a line gives are below 2^64.
 use Prim.Native.Nat.{ℕ, zero, suc, ◌<◌, ◌^◌}
 use mathlib.Core.List.{List, [], ◌∷◌}
-use mathlib.Core.Option.{Option, none, some}
 use mathlib.Core.Bool.{◌&&◌}
 use native.Mathlib.Omega.{arith}
 use lib.Dec.{eqb, leb}
@@ -17,12 +16,12 @@ abbrev pub Below : List ℕ → Type 0
 Below ns = (j : ℕ) → get_or ns j 0 < 2 ^ 64
 
 abbrev OneBelow : Option ℕ → Type 0
-OneBelow (some n) = n < 2 ^ 64
-OneBelow none = Unit {0}
+OneBelow (Some n) = n < 2 ^ 64
+OneBelow None = Unit {0}
 
 abbrev AllBelow : Option (List ℕ) → Type 0
-AllBelow (some ns) = Below ns
-AllBelow none = Unit {0}
+AllBelow (Some ns) = Below ns
+AllBelow None = Unit {0}
 
 number_below : (f : List ℕ) → OneBelow (number_of f)
 unfolding number_of
@@ -33,16 +32,16 @@ one-before n ns h hs zero = h
 one-before n ns h hs (suc j) = hs j
 
 all-before : (n : Option ℕ) (ns : Option (List ℕ)) → OneBelow n → AllBelow ns → AllBelow (before n ns)
-all-before (some n) (some ns) h hs = one-before n ns h hs
-all-before (some n) none h hs = tt
-all-before none ns h hs = tt
+all-before (Some n) (Some ns) h hs = one-before n ns h hs
+all-before (Some n) None h hs = tt
+all-before None ns h hs = tt
 
 numbers_below : (fs : List (List ℕ)) → AllBelow (numbers_of fs)
 unfolding numbers_of
 numbers_below [] = λ j. omega arith
 numbers_below (f ∷ fs) = all-before (number_of f) (numbers_of fs) (number_below f) (numbers_below fs)
 
-order-fits : (o : Option Order) → ItemsFit (order_or o)
+order-fits : (o : Option AnOrder) → ItemsFit (order_or o)
 order-fits (Some o) = tt
 order-fits None = tt
 
@@ -64,8 +63,8 @@ items_fit (k ∷ a ∷ b ∷ c ∷ []) h = three_fit k a b c (h 1) (h 2) (h 3)
 items_fit (k ∷ a ∷ b ∷ c ∷ d ∷ ns) h = tt
 
 read_fit : (ns : Option (List ℕ)) → AllBelow ns → ItemsFit (if_read ns)
-read_fit (some ns) h = items_fit ns h
-read_fit none h = tt
+read_fit (Some ns) h = items_fit ns h
+read_fit None h = tt
 
 pub items_below : ItemsBelow
 unfolding command_of

@@ -1,9 +1,9 @@
 -- Read byte by byte, a line says what its fields say.
+use Rattle.std.specs.Prelude.{Some, None, Option}
 use Prim.Native.Nat.{ℕ, ◌-◌, ◌*◌, ◌+◌, ◌≤◌, ◌^◌}
 use mathlib.Core.Path.{◌≡◌, refl, sym, ap, ◌∙◌}
 use mathlib.Core.Bool.{Bool, true, false, ◌&&◌}
 use mathlib.Core.List.{List, [], ◌∷◌, ◌++◌, append_assoc}
-use mathlib.Core.Option.{Option, none, some}
 use native.Mathlib.Omega.{arith}
 use borrow.Author.Tests.{eqb-false, eqb-true, ltb-true}
 use lib.Dec.{eqb, ltb}
@@ -46,8 +46,8 @@ held s done f =
 
 -- what the line says, by those numbers and the others
 abbrev after : List ℕ → Option (List ℕ) → Command
-after done (some ns) = with_numbers (done ++ ns)
-after done none = Unreadable
+after done (Some ns) = with_numbers (done ++ ns)
+after done None = Unreadable
 
 spoilt_stays : (bs : List ℕ) → read_on spoilt bs ≡ spoilt
 unfolding byte_on
@@ -63,20 +63,20 @@ five : (a b c d : ℕ) (f bs : List ℕ) → after (a ∷ b ∷ c ∷ d ∷ []) 
 unfolding fields_from numbers_of with_numbers
 five a b c d f [] = go (number_of f)
   where
-    go : (n : Option ℕ) → after (a ∷ b ∷ c ∷ d ∷ []) (before n (some [])) ≡ Unreadable
-    go none = refl
-    go (some n) = refl
+    go : (n : Option ℕ) → after (a ∷ b ∷ c ∷ d ∷ []) (before n (Some [])) ≡ Unreadable
+    go None = refl
+    go (Some n) = refl
 five a b c d f (x ∷ bs) =
     split (eqb x 44) (λ e. rw e (go (number_of f) (numbers_of (fields_from [] bs)))) (λ e. rw e (five a b c d (f ++ (x ∷ [])) bs))
   where
     go : (n : Option ℕ) (ns : Option (List ℕ)) → after (a ∷ b ∷ c ∷ d ∷ []) (before n ns) ≡ Unreadable
-    go none ns = refl
-    go (some n) none = refl
-    go (some n) (some ns) = refl
+    go None ns = refl
+    go (Some n) None = refl
+    go (Some n) (Some ns) = refl
 
-after-before : (done : List ℕ) (v : ℕ) (ns : Option (List ℕ)) → after (done ++ (v ∷ [])) ns ≡ after done (before (some v) ns)
-after-before done v none = refl
-after-before done v (some ns) = ap with_numbers (append_assoc done (v ∷ []) ns)
+after-before : (done : List ℕ) (v : ℕ) (ns : Option (List ℕ)) → after (done ++ (v ∷ [])) ns ≡ after done (before (Some v) ns)
+after-before done v None = refl
+after-before done v (Some ns) = ap with_numbers (append_assoc done (v ∷ []) ns)
 
 comma_empty : (r : Reading) → eqb r.digits 0 ≡ true → comma_on r ≡ spoilt
 unfolding comma_on
@@ -109,7 +109,7 @@ Says bs = (s : Bool) (done f : List ℕ) → length done ≤ 3 → Fit f
 module _ (bs : List ℕ) (onward : Says bs) (s : Bool) where
   -- a comma behind a digit
   comma_says : (done f : List ℕ) → length done ≤ 3 → eqb (length f) 0 ≡ false
-      → command_in (read_on (comma_on (held s done f)) bs) ≡ after done (before (some (number_from 0 f)) (numbers_of (fields_from [] bs)))
+      → command_in (read_on (comma_on (held s done f)) bs) ≡ after done (before (Some (number_from 0 f)) (numbers_of (fields_from [] bs)))
   unfolding comma_on number_from
   comma_says [] f few e =
       rw e (onward true (number_from 0 f ∷ []) [] (omega arith) fit_none ∙ after-before [] _ (numbers_of (fields_from [] bs)))
@@ -162,5 +162,5 @@ unfolding command_of number_from
 reads bs = says bs false [] [] (omega arith) fit_none ∙ go (numbers_of (fields_from [] bs))
   where
     go : (ns : Option (List ℕ)) → after [] ns ≡ if_read ns
-    go none = refl
-    go (some ns) = refl
+    go None = refl
+    go (Some ns) = refl

@@ -1,7 +1,6 @@
 -- 01, "The job program": which lines an input has, and what a line says. A line is its bytes, without byte 10.
 use Rattle.std.specs.Prelude.{ℕ, ◌+◌, ◌-◌, ◌*◌, ◌^◌, Bool, cond, true, ◌&&◌, List, [], ◌∷◌, ◌++◌, eqb, leb, ltb, length, Some, None, Option}
-use Rattle.machine.specs.declared.orders.Order.{Order}
-use Rattle.std.proofs.Math.Option.{Option, none, some}
+use Rattle.machine.specs.declared.orders.Order.{Order as AnOrder}
 use Rattle.machine.specs.Orders.{of_kind}
 use Rattle.machine.specs.declared.orders.Order.TheVariants as order
 use Rattle.line.specs.declared.commands.Command.{Command}
@@ -47,17 +46,17 @@ fits f = all_digits f && (leb (length f) 20 && ltb (number_from 0 f) (2 ^ 64))
 
 -- "decimal of 1 to 20 digits": the number of a field, if it has one
 unfoldable pub number_of : List ℕ → Option ℕ
-number_of f = cond (leb 1 (length f) && fits f) (some (number_from 0 f)) none
+number_of f = cond (leb 1 (length f) && fits f) (Some (number_from 0 f)) None
 
 -- a number before others, if all are there
 abbrev pub before : Option ℕ → Option (List ℕ) → Option (List ℕ)
-before (some n) (some ns) = some (n ∷ ns)
-before (some n) none = none
-before none ns = none
+before (Some n) (Some ns) = Some (n ∷ ns)
+before (Some n) None = None
+before None ns = None
 
 -- the numbers of all fields, if each has one
 unfoldable pub numbers_of : List (List ℕ) → Option (List ℕ)
-numbers_of [] = some []
+numbers_of [] = Some []
 numbers_of (f ∷ fs) = before (number_of f) (numbers_of fs)
 
 -- "9. Open (x)"; "kind 10 adds one dealer item"; "an unknown kind"
@@ -65,7 +64,7 @@ unfoldable pub with_one : (kind a : ℕ) → Command
 with_one k a = cond (eqb k 9) (Order (order.Open a)) (cond (eqb k 10) (Dealer a) Unreadable)
 
 -- "kinds 1 to 9 are the orders"; "an unknown kind"
-abbrev pub order_or : Option Order → Command
+abbrev pub order_or : Option AnOrder → Command
 order_or (Some o) = Order o
 order_or None = Unreadable
 
@@ -84,8 +83,8 @@ with_numbers (k ∷ a ∷ b ∷ c ∷ d ∷ ns) = Unreadable
 
 -- "An empty or otherwise unreadable line"
 abbrev pub if_read : Option (List ℕ) → Command
-if_read (some ns) = with_numbers ns
-if_read none = Unreadable
+if_read (Some ns) = with_numbers ns
+if_read None = Unreadable
 
 -- what a line says: its fields, their numbers, then kind and count
 unfoldable pub command_of : List ℕ → Command

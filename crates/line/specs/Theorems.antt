@@ -1,6 +1,5 @@
 -- Facts about lines, for all bytes and numbers. Proofs: proofs/Theorems.antt.
-use Rattle.std.specs.Prelude.{ℕ, suc, ◌≤◌, ◌<◌, ◌^◌, false, true, List, [], ◌∷◌, ◌++◌, ◌≡◌, drop, get_or, length, replicate}
-use Rattle.std.proofs.Math.Option.{some}
+use Rattle.std.specs.Prelude.{ℕ, suc, ◌≤◌, ◌<◌, ◌^◌, false, true, List, [], ◌∷◌, ◌++◌, ◌≡◌, drop, get_or, length, replicate, Some}
 use Rattle.machine.specs.declared.orders.Order.TheVariants as order
 use Rattle.line.specs.Lines.{command_of, line_in, lines_of, number_of}
 use Rattle.line.specs.Printed.{decimal, printed}
@@ -34,7 +33,7 @@ LineInChunks = (xs ys : List ℕ)
 
 -- a number printed reads back
 abbrev pub ReadsBack : Type 0
-ReadsBack = (n : ℕ) → n < 2 ^ 64 → number_of (decimal n) ≡ some n
+ReadsBack = (n : ℕ) → n < 2 ^ 64 → number_of (decimal n) ≡ Some n
 
 -- it has 1 to 20 digits
 abbrev pub AtMost20 : Type 0
