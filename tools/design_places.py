@@ -123,11 +123,11 @@ def handed_on(paths, functions):
 
 
 def flags(paths, functions):
-    """Flags in a struct beside other fields, and flags among the parameters; `sound` is counted in point 5."""
+    """Flags in a struct beside other fields, and flags among the parameters; `sound` is counted in point 5, `more` has nothing beside it."""
     for place, name, fields in types(paths, "struct"):
         yield from (f"{place}: {name}: {f}" for f in fields if re.search(r": bool$", f))
     for f in functions:
-        yield from (f.place(p) for p in f.parameters if re.search(r"(?<!sound): bool$", p))
+        yield from (f.place(p) for p in f.parameters if re.search(r"(?<!sound)(?<!more): bool$", p))
 
 
 def numbers(paths, functions):
@@ -168,7 +168,7 @@ def tokens(body):
 
 
 def twins(paths, functions):
-    """Functions whose bodies, of 20 signs or more, are nearly the same but for names and numbers (in another crate: the same), each with an earlier one."""
+    """Functions whose bodies are the same but for names and numbers, or in one crate nearly the same: each with an earlier one."""
     bodies = [(f, tokens(f.body)) for f in functions]
     bodies = [(f, b) for f, b in bodies if len(b) >= 20]
     for i, (f, a) in enumerate(bodies):
@@ -179,7 +179,7 @@ def twins(paths, functions):
 
 
 def alike(a, b):
-    if min(len(a), len(b)) < 0.8 * max(len(a), len(b)):
+    if min(len(a), len(b)) < max(25, 0.8 * max(len(a), len(b))):
         return False
     match = difflib.SequenceMatcher(None, a, b, autojunk=False)
     return match.quick_ratio() >= 0.9 and match.ratio() >= 0.9
@@ -226,6 +226,12 @@ def starts(paths, functions):
     for f in functions:
         if not f.parameters and f.returns and f.name != "main":
             yield f.place("-> " + f.returns)
+
+
+def casts(paths, functions):
+    """Casts of one number type into another."""
+    for f in functions:
+        yield from f.lines(r"\bas " + NUMBER + r"\b")
 
 
 # 5. Facts in many contracts, parameters that travel together
@@ -308,6 +314,7 @@ KINDS = {
     "3-loops": loops,
     "4-conversions": conversions,
     "4-starts": starts,
+    "4-casts": casts,
     "5-masks": parameters("m0", "m1", "m2"),
     "5-channels": parameters("c0", "c1", "c2"),
     "5-record-and-tapes": parameters("record", "m0", "dealer", "c0"),
