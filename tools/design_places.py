@@ -119,7 +119,8 @@ def handed_on(paths, functions):
     bad = r"(?:Because|Refused|No[A-Z]\w*|Ended|Unreadable)"
     for f in functions:
         yield from f.lines(r"::" + bad + r"(?:\(\w+\))?\s*=>\s*\{?\s*\w+::" + bad + r"(?:\((?:\w+)\))?")
-        yield from f.lines(r"else\s*\{\s*return\s+(?:\w+::" + bad + r"|false|\w+\s*\{[^}]*false[^}]*\}|at)\s*;")
+        yield from f.lines(r"let (?!Some\b|Ok\b|Err\b)[^;=]*=[^;{]*else\s*\{[^}]*return\s[^;]*;")
+        yield from f.lines(r"let Ok\([^;=]*=[^;{]*else\s*\{\s*return\s+\w+\s*\{[^;]*false[^;]*;")
 
 
 def flags(paths, functions):
