@@ -1,0 +1,43 @@
+// What a list of gates is lent: the mask tapes, the channels, and how far both have come.
+ghost use Rattle.std.specs.Prelude.{◌≡◌};
+ghost use Rattle.circuit.specs.Loans.{Room, Sends, items_next};
+ghost use Rattle.gate.specs.Places.{Sent, p0, p1, p2};
+
+use gate::Sharing;
+
+// Gate `at` takes item `at` of each mask tape and writes word `at` of each channel.
+#[derive(Drop)]
+pub struct Lent<'a> {
+    pub m0: &'a [u64],
+    pub m1: &'a [u64],
+    pub m2: &'a [u64],
+    pub c0: &'a mut [u64],
+    pub c1: &'a mut [u64],
+    pub c2: &'a mut [u64],
+    pub at: usize,
+}
+
+impl Lent<'_> {
+    // The next item of each mask tape.
+    pub fn items(&self) -> Sharing
+        requires { Room 1 self.now }
+        ensures { result ≡ items_next self.now }
+    {
+        Sharing {
+            s0: self.m0[self.at],
+            s1: self.m1[self.at],
+            s2: self.m2[self.at],
+        }
+    }
+
+    // The next word of each channel: one gate is done.
+    pub fn send(&mut self, z: Sharing)
+        requires { Room 1 self.old }
+        ensures { Sends 1 (λ T c d. Sent z (c p0) (c p1) (c p2) (d p0) (d p1) (d p2)) self.old self.new }
+    {
+        self.c0[self.at] = z.s0;
+        self.c1[self.at] = z.s1;
+        self.c2[self.at] = z.s2;
+        self.at += 1;
+    }
+}
