@@ -1,9 +1,10 @@
 -- What a list of gates is lent, from its position on.
 -- Used by the code's contracts alone: no theorem's statement speaks of it.
 use Rattle.std.specs.Prelude.{ℕ, ◌+◌, ◌<◌, ◌≤◌, List, ◌≡◌, drop, get_or, length, take}
-use Rattle.gate.specs.Places.{InRange, Place, p0, p1, p2, three}
+use Rattle.gate.specs.Places.{InRange, Place, Sent, p0, p1, p2, three}
 use Rattle.gate.specs.declared.sharing.Sharing.{Sharing}
-use Rattle.circuit.specs.Lent.{Long}
+use Rattle.circuit.specs.Circuits.{Circuit, Gate}
+use Rattle.circuit.specs.Lent.{Left, Long, Ran}
 use Rattle.circuit.specs.Sharings.{items_at}
 use Rattle.circuit.specs.declared.lent.Lent.{Lent}
 
@@ -16,7 +17,7 @@ channels v = three v.c0.now v.c1.now v.c2.now
 
 -- the part of each from a position on
 abbrev pub from : ℕ → (Place → List ℕ) → Place → List ℕ
-from k r = three (drop k (r p0)) (drop k (r p1)) (drop k (r p2))
+from k r = λ i. drop k (r i)
 
 -- n gates more have items and room
 pub record Room (n : ℕ) (v : Lent) : Type 0 where
@@ -52,3 +53,15 @@ pub record Sends (n : ℕ) (P : (T c d : Place → List ℕ) → Type 0) (v w : 
   pub ahead : P (from v.at (tapes v)) (from v.at (channels v)) (from v.at (channels w))
   pub at : w.at ≡ v.at + n
   pub same : Same v w
+
+-- of one gate: its words z stand at the heads
+abbrev pub words_sent : Sharing → (T c d : Place → List ℕ) → Type 0
+words_sent z T c d = Sent z (c p0) (c p1) (c p2) (d p0) (d p1) (d p2)
+
+-- the gates G ran from states s to states r
+abbrev pub gates_ran : {S : Type 0} → List (Gate S) → (s r : Place → S) → (T c d : Place → List ℕ) → Type 0
+gates_ran G s r T c d = Ran G s T c r d
+
+-- from sources x and y the circuit C left the sharing z
+abbrev pub circuit_left : Circuit → (x y : Place → ℕ) → Sharing → (T c d : Place → List ℕ) → Type 0
+circuit_left C x y z T c d = Left C x y T c z d

@@ -1,7 +1,6 @@
 // What a list of gates is lent: the mask tapes, the channels, and how far both have come.
 ghost use Rattle.std.specs.Prelude.{◌≡◌};
-ghost use Rattle.circuit.specs.Loans.{Room, Sends, items_next};
-ghost use Rattle.gate.specs.Places.{Sent, p0, p1, p2};
+ghost use Rattle.circuit.specs.Loans.{Room, Sends, items_next, words_sent};
 
 use gate::Sharing;
 
@@ -33,7 +32,7 @@ impl Lent<'_> {
     // The next word of each channel: one gate is done.
     pub fn send(&mut self, z: Sharing)
         requires { Room 1 self.old }
-        ensures { Sends 1 (λ T c d. Sent z (c p0) (c p1) (c p2) (d p0) (d p1) (d p2)) self.old self.new }
+        ensures { Sends 1 (words_sent z) self.old self.new }
     {
         self.c0[self.at] = z.s0;
         self.c1[self.at] = z.s1;
