@@ -39,4 +39,17 @@ impl Lent<'_> {
         self.c2[self.at] = z.s2;
         self.at += 1;
     }
+
+    // One gate: its words, from the next items, are sent.
+    pub fn gate<F: FnOnce(Sharing) -> Sharing>(&mut self, words: F) -> Sharing
+        requires room { Room 1 self.old }
+        requires words { F.pre words (items_next self.old) }
+        ensures is { F.post words (items_next self.old) result }
+        ensures sent { Sends 1 (words_sent result) self.old self.new }
+    {
+        let t = self.items();
+        let z = words(t);
+        self.send(z);
+        z
+    }
 }
