@@ -35,8 +35,9 @@ pub fn running_stage(x: Sharing, carries: Sharing, n: u64, lent: &mut Lent<'_>) 
     let mut running = zeros();
     let mut last = running;
     for j in 0..n {
-        last = running_turn(x, carries, last, j + 1, lent);
-        running = store(running, last, j + 2);
+        let next = j + 1;
+        last = running_turn(x, carries, last, next, lent);
+        running = store(running, last, next + 1);
     }
     running
 }

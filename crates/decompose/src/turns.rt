@@ -57,7 +57,13 @@ pub fn carry_turn(x: Sharing, carries: Sharing, j: u64, lent: &mut Lent<'_>) -> 
 }
 
 // Running carry j + 1, from sum bit, carry and running carry j, which is the last.
-pub fn running_turn(x: Sharing, carries: Sharing, last: Sharing, j: u64, lent: &mut Lent<'_>) -> Sharing
+pub fn running_turn(
+    x: Sharing,
+    carries: Sharing,
+    last: Sharing,
+    j: u64,
+    lent: &mut Lent<'_>,
+) -> Sharing
     requires bit { j < 63 }
     requires last { InRange 2 last }
     requires supplied { Supplied 2 1 lent.old }
