@@ -11,7 +11,7 @@ use Rattle.std.proofs.lemmas.List.{drop-take, take-take}
 use Rattle.gate.specs.Places.{InRange, Place, Sent, p0, p1, p2, parts, three}
 use Rattle.gate.specs.declared.sharing.Sharing.{Sharing}
 use Rattle.gate.proofs.PlaceLaw.{each}
-use Rattle.circuit.specs.Circuits.{Gate, ends, sent, upto}
+use Rattle.circuit.specs.Circuits.{Gate, ends, heads, sent, upto}
 use Rattle.circuit.specs.Lent.{Long, Ran, Turned}
 use Rattle.circuit.specs.Loans.{ItemsIn, Room, Same, Sends, Supplied, channels, gates_ran, items_next, tapes, words_sent}
 use Rattle.circuit.specs.Sharings.{items_at}
@@ -85,7 +85,10 @@ same_tapes same = rw (same.m0, same.m1, same.m2)
 pub sends_then : {n k : ℕ} {P Q R : (T c d : Place → List ℕ) → Type 0} {u v w : Lent}
     → Sends n P u v
     → Sends k Q v w
-    → ((T c d e : Place → List ℕ) → P T c d → Q (drops n T) (drops n d) (drops n e) → ((i : Place) → take n (e i) ≡ take n (d i)) → R T c e)
+    → (P (drops u.at (tapes u)) (drops u.at (channels u)) (drops u.at (channels v))
+    → Q (drops n (drops u.at (tapes u))) (drops n (drops u.at (channels v))) (drops n (drops u.at (channels w)))
+    → ((i : Place) → take n (drop u.at (channels w i)) ≡ take n (drop u.at (channels v i)))
+    → R (drops u.at (tapes u)) (drops u.at (channels u)) (drops u.at (channels w)))
     → Sends (n + k) R u w
 sends_then {n} {k} {P} {Q} {R} {u} {v} {w} a b on =
     let at : ℕ = u.at in
@@ -96,7 +99,7 @@ sends_then {n} {k} {P} {Q} {R} {u} {v} {w} a b on =
     let kept : (i : Place) → take n (drop at (channels w i)) ≡ take n (drop at (channels v i))
     = λ i. sym (drop-take at n (channels w i)) ∙ ap (drop at) (rw a.at at (b.same.behind i)) ∙ drop-take at n (channels v i) in
     record {
-      ahead = on _ _ _ _ a.ahead second kept;
+      ahead = on a.ahead second kept;
       at = b.at ∙ omega (arith, a.at);
       same = same_then n a.at a.same b.same;
     }
@@ -119,7 +122,7 @@ module _ {S : Type 0} where
       → Sends 1 (gates_ran (g k ∷ []) r r') v w
       → Sends (k + 1) (gates_ran (upto g (k + 1)) s r') u w
   unfolding upto
-  more_sent g k a b = sends_then a b (λ T c d e first second kept. rw (add-one k) (ran_then (length-upto g k) first second kept))
+  more_sent g k a b = sends_then a b (λ first second kept. rw (add-one k) (ran_then (length-upto g k) first second kept))
 
   -- three runs, each from a position on
   three-from : {G : List (Gate S)} {s r : Place → S} (v w : Lent) (k : ℕ)
@@ -192,6 +195,17 @@ room_less k less room =
 
 pub supplied_less : {m n : ℕ} (k : ℕ) {v : Lent} → k ≤ n → Supplied m n v → Supplied m k v
 supplied_less {m} {n} k less supplied = record { room = room_less k less supplied.room; items = items_less m n 0 k (omega arith) supplied.items }
+
+-- each channel has room for a gate's word, also once n gates are done
+pub room_ahead : {k : ℕ} {v : Lent} → 0 < k → Room k v → (i : Place) → 0 < length (drops v.at (channels v) i)
+room_ahead {v = v} some room =
+    each (λ i. 0 < length (drops v.at (channels v) i))
+    (rw length-drop (omega (arith, room.channels))) (rw length-drop (omega (arith, room.channels))) (rw length-drop (omega (arith, room.channels)))
+
+-- the next items are the heads of the tapes
+pub heads_next : (v : Lent) → heads (drops v.at (tapes v)) ≡ parts (items_next v)
+heads_next v =
+    rw (get_or-drop v.at v.m0.now 0 0, get_or-drop v.at v.m1.now 0 0, get_or-drop v.at v.m2.now 0 0, add-zero)
 
 -- the items of a gate are in range
 pub next_in : {m n : ℕ} {t : Sharing} {v : Lent} → 0 < n → ItemsIn m 0 n v → t ≡ items_next v → InRange m t
