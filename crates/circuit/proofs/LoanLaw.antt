@@ -185,13 +185,14 @@ room_later n k {v = v} {w = w} less room sends =
       channels = record { zero = omega arith; one = omega arith; two = omega arith };
     }
 
-pub items_later : (m i n k : ℕ) {P : (T c d : Place → List ℕ) → Type 0} {v w : Lent} → ItemsIn m (n + i) k v → Sends n P v w → ItemsIn m i k w
-items_later m i n k {v = v} {w = w} items sends =
+pub items_later : {m k all : ℕ} (n i : ℕ) {P : (T c d : Place → List ℕ) → Type 0} {v w : Lent} → all ≡ n + i → ItemsIn m all k v → Sends n P v w → ItemsIn m i k w
+items_later n i {v = v} {w = w} e items sends =
     let same = sends.same in
+    let here = rw e at items in
     record {
       below = λ j h.
           let at : w.at + i + j ≡ v.at + (n + i) + j = omega (arith, sends.at) in
-          rw (at, same.m0, same.m1, same.m2) (items.below j h);
+          rw (at, same.m0, same.m1, same.m2) (here.below j h);
     }
 
 pub items_less : (m n i k : ℕ) {v : Lent} → i + k ≤ n → ItemsIn m 0 n v → ItemsIn m i k v
@@ -206,7 +207,7 @@ pub supplied_later : {m all : ℕ} (n k : ℕ) {P : (T c d : Place → List ℕ)
 supplied_later {m} {all} n k less supplied sends =
     record {
       room = room_later n k less supplied.room sends;
-      items = items_later m 0 n k (items_less m all (n + 0) k (omega arith) supplied.items) sends;
+      items = items_later n 0 refl (items_less m all (n + 0) k (omega arith) supplied.items) sends;
     }
 
 pub room_less : {n : ℕ} (k : ℕ) {v : Lent} → k ≤ n → Room n v → Room k v

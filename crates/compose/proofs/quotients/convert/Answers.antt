@@ -10,7 +10,7 @@ quotient-q-requires c = record { room = room_less 1 (omega arith) c.requires.roo
 pub compose_bits-s-requires-clause-supplied : goal.compose_bits-s-requires-clause-supplied
 compose_bits-s-requires-clause-supplied c =
     let done = c.quotient-q.ensures in
-    record { room = room_later 1 4 (omega arith) c.requires.room done; items = items_later _ 0 1 4 c.requires.items done }
+    record { room = room_later 1 4 (omega arith) c.requires.room done; items = items_later 1 0 (omega arith) c.requires.items done }
 
 pub returns-clause-is : goal.returns-clause-is
 returns-clause-is c =
