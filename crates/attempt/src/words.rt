@@ -4,6 +4,7 @@ ghost use Rattle.circuit.specs.Lent.{Left};
 ghost use Rattle.order.specs.Tasks.{Fit, circuit_of, cost_of, other_of, source_of};
 ghost use Rattle.attempt.specs.Supplies.{Supplied};
 
+use circuit::Lent;
 use compose::{compose, convert, multiply};
 use decompose::decompose;
 use gate::Sharing;
@@ -24,11 +25,20 @@ pub fn words(
     requires supplied { Supplied (cost_of t) m0.now m1.now m2.now c0.old c1.old c2.old }
     ensures { Left (circuit_of t) (parts (source_of t)) (parts (other_of t)) (three m0.now m1.now m2.now) (three c0.old c1.old c2.old) result (three c0.new c1.new c2.new) }
 {
+    let lent = &mut Lent {
+        m0,
+        m1,
+        m2,
+        c0,
+        c1,
+        c2,
+        at: 0,
+    };
     match t {
-        Task::Multiply(r, x, y) => multiply(r, x, y, m0, m1, m2, c0, c1, c2),
-        Task::Decompose(r, a, l) => decompose(r, a, l, m0, m1, m2, c0, c1, c2),
-        Task::Convert(e, f, a) => convert(e, f, a, m0, m1, m2, c0, c1, c2),
-        Task::Shift(r, a, s) => shift(r, a, s, m0, m1, m2, c0, c1, c2),
-        Task::Compose(f, w, l) => compose(f, w, l, m0, m1, m2, c0, c1, c2),
+        Task::Multiply(r, x, y) => multiply(r, x, y, lent),
+        Task::Decompose(r, a, l) => decompose(r, a, l, lent),
+        Task::Convert(e, f, a) => convert(e, f, a, lent),
+        Task::Shift(r, a, s) => shift(r, a, s, lent),
+        Task::Compose(f, w, l) => compose(f, w, l, lent),
     }
 }

@@ -6,7 +6,7 @@ use native.Mathlib.Nat.{add-zero}
 use native.Mathlib.Numerals.{add-one}
 use lib.ListN.{set}
 use lib.Seq.{get_or-drop}
-use Rattle.gate.specs.Places.{InRange, Place, Sent, parts, sharing, three}
+use Rattle.gate.specs.Places.{InRange, Place, Sent, p0, p1, p2, parts, sharing, three}
 use Rattle.gate.specs.declared.sharing.Sharing.{Sharing}
 use Rattle.gate.proofs.PlaceLaw.{each}
 use Rattle.circuit.specs.Circuits.{Gate, upto, words}
@@ -25,10 +25,9 @@ items-next k t₀ t₁ t₂ =
     rw (part_is k t₀, part_is k t₁, part_is k t₂, get_or-drop k t₀ 0 0, get_or-drop k t₁ 0 0, get_or-drop k t₂ 0 0, add-zero)
 
 -- the words that a gate sends, by place
-pub stored : {z : Sharing} (x : Place → ℕ) {c₀ c₁ c₂ d₀ d₁ d₂ : List ℕ}
-    → z ≡ sharing x → Sent z c₀ c₁ c₂ d₀ d₁ d₂ → (i : Place) → three d₀ d₁ d₂ i ≡ set (three c₀ c₁ c₂ i) 0 (x i)
-stored x {c₀ = c₀} {c₁ = c₁} {c₂ = c₂} {d₀ = d₀} {d₁ = d₁} {d₂ = d₂} is sent =
-    each (λ i. three d₀ d₁ d₂ i ≡ set (three c₀ c₁ c₂ i) 0 (x i)) (rw is at sent.zero) (rw is at sent.one) (rw is at sent.two)
+pub stored : {z : Sharing} (x : Place → ℕ) (c d : Place → List ℕ)
+    → z ≡ sharing x → Sent z (c p0) (c p1) (c p2) (d p0) (d p1) (d p2) → (i : Place) → d i ≡ set (c i) 0 (x i)
+stored x c d is sent = each (λ i. d i ≡ set (c i) 0 (x i)) (rw is at sent.zero) (rw is at sent.one) (rw is at sent.two)
 
 module _ {S : Type 0} where
   -- a turn is a stretch of one gate
@@ -37,10 +36,10 @@ module _ {S : Type 0} where
       → Long 1 c₀ c₁ c₂
       → Turned g s t r c₀ c₁ c₂ d₀ d₁ d₂
       → Ran (g ∷ []) s (three m₀ m₁ m₂) (three c₀ c₁ c₂) r (three d₀ d₁ d₂)
-  turn-ran {g} {s} {r} {t} {m₀} {m₁} {m₂} {c₀} {c₁} {c₂} items room turned =
+  turn-ran {g} {s} {r} {t} {m₀} {m₁} {m₂} {c₀} {c₁} {c₂} {d₀} {d₁} {d₂} items room turned =
       let z : Place → ℕ = words g s (parts t) in
       rw (← turned.states)
-      (ran-gate g s (three m₀ m₁ m₂) (three c₀ c₁ c₂) z (ap (λ (w : Sharing). words g s (parts w)) (sym items)) (rooms room) (stored z refl turned.stored))
+      (ran-gate g s (three m₀ m₁ m₂) (three c₀ c₁ c₂) z (ap (λ (w : Sharing). words g s (parts w)) (sym items)) (rooms room) (stored z (three c₀ c₁ c₂) (three d₀ d₁ d₂) refl turned.stored))
 
   -- no gate of a stage yet
   pub no_gates : (g : ℕ → Gate S) {s r : Place → S} {T c : Place → List ℕ} → s ≡ r → Ran (upto g 0) s T c r c
