@@ -1,5 +1,4 @@
--- 64 words by planes: plane j has bit j of each word, bit k being word k's. Of three places at once, place i's plane j is word
--- 64 i + j of a run of 192. Used by the code's contracts alone: no theorem's statement speaks of it.
+-- 64 words by planes: plane j has bit j of each word, bit k being word k's, of one place or of three at once. Used by the code's contracts alone: no theorem's statement speaks of it.
 use Rattle.std.specs.Prelude.{ℕ, ◌+◌, ◌*◌, ◌/◌, ◌%◌, ◌<◌, ◌≤◌, ◌^◌, List, ◌≡◌, get_or, set}
 use Rattle.std.specs.Int.Bits.{bit_xor}
 use Rattle.ring.specs.Rings.{bit_of}
@@ -10,6 +9,7 @@ use Rattle.circuit.specs.Bits.{gather}
 use Rattle.circuit.specs.Sharings.{zeros}
 use Rattle.decompose.specs.Turns.{majority_words}
 use Rattle.decompose.specs.Words.{bits_at}
+use Rattle.planes.specs.declared.places.Planes.{Planes}
 
 -- the planes y are those of 64 words: word k is v k
 pub record PlanesOf (v : ℕ → ℕ) (y : List ℕ) : Type 0 where
@@ -41,27 +41,27 @@ pub record Split (n : ℕ) (before after : List ℕ) : Type 0 where
   pub high : (k : ℕ) → k < n → get_or after (32 + k) 0 ≡ get_or before k 0 / 2 ^ 32
 
 -- plane j of the three places, and the planes with those at j stored
-abbrev pub planes_at : ℕ → List ℕ → Sharing
-planes_at j q = record { s0 = get_or q j 0; s1 = get_or q (64 + j) 0; s2 = get_or q (128 + j) 0 }
+abbrev pub planes_at : ℕ → Planes → Sharing
+planes_at j q = record { s0 = get_or q.p0 j 0; s1 = get_or q.p1 j 0; s2 = get_or q.p2 j 0 }
 
-abbrev pub with_planes : List ℕ → ℕ → Sharing → List ℕ
-with_planes q j w = set (set (set q j w.s0) (64 + j) w.s1) (128 + j) w.s2
+abbrev pub with_planes : Planes → ℕ → Sharing → Planes
+with_planes q j w = record { p0 = set q.p0 j w.s0; p1 = set q.p1 j w.s1; p2 = set q.p2 j w.s2 }
 
 -- figure k's words, from the first n planes
-abbrev pub columns : ℕ → List ℕ → ℕ → Sharing
+abbrev pub columns : ℕ → Planes → ℕ → Sharing
 columns n q k =
     record {
-      s0 = gather n (λ j. bit_of (get_or q j 0) k);
-      s1 = gather n (λ j. bit_of (get_or q (64 + j) 0) k);
-      s2 = gather n (λ j. bit_of (get_or q (128 + j) 0) k);
+      s0 = gather n (λ j. bit_of (get_or q.p0 j 0) k);
+      s1 = gather n (λ j. bit_of (get_or q.p1 j 0) k);
+      s2 = gather n (λ j. bit_of (get_or q.p2 j 0) k);
     }
 
 -- the planes x are those of 64 figures: figure k is v k
-pub record Loaded (v : ℕ → Sharing) (x : List ℕ) : Type 0 where
+pub record Loaded (v : ℕ → Sharing) (x : Planes) : Type 0 where
   pub at : (k : ℕ) → k < 64 → columns 64 x k ≡ v k
 
 -- planes from e on are 0
-pub record NoPlanes (e : ℕ) (o : List ℕ) : Type 0 where
+pub record NoPlanes (e : ℕ) (o : Planes) : Type 0 where
   pub at : (j : ℕ) → e ≤ j → j < 64 → planes_at j o ≡ zeros
 
 -- XOR of words, place by place
