@@ -297,30 +297,3 @@ rising_all {n = n} x q r a₀ s o o' carry b few planes totals b-is o_is all =
       went = all.went;
       digits = digits_more n x q r all.a o o' b carry (omega arith) planes all.digits (b-is ∙ totals.at (n + 2) (omega arith)) all.as_carry o_is;
     }
-
--- ---- planes cleared
-
--- planes stored below e leave none from e on
-pub none_kept : {e j : ℕ} {o' : List ℕ} (o : List ℕ) (w : Sharing) → j < e → j < 64 → length o ≡ 192 → o' ≡ with_planes o j w
-    → NoPlanes e o → NoPlanes e o'
-none_kept {j = j} o w below inside long is none = record {
-  at = λ i from h. ap (planes_at i) is ∙ other_planes o j w inside long i h (λ e. omega arith) ∙ none.at i from h;
-}
-
--- j planes from n on
-pub record ClearedTo (n j : ℕ) (before after : List ℕ) : Type 0 where
-  pub stand : (i : ℕ) → i < n → i < 64 → planes_at i after ≡ planes_at i before
-  pub none : (i : ℕ) → n ≤ i → i < j → i < 64 → planes_at i after ≡ zeros
-
-pub cleared_more : {n j : ℕ} {before o o' : List ℕ} {w : Sharing} → n ≤ j → j < 64 → length o ≡ 192 → w ≡ zeros → o' ≡ with_planes o j w
-    → ClearedTo n j before o → ClearedTo n (j + 1) before o'
-cleared_more {n} {j} {before} {o} {o'} {w} from inside long none is so_far =
-    let other : (i : ℕ) → i < 64 → (i ≡ j → ⊥) → planes_at i o' ≡ planes_at i o
-    = λ i h apart. ap (planes_at i) is ∙ other_planes o j w inside long i h apart in
-    record {
-      stand = λ i h small. other i small (λ e. omega arith) ∙ so_far.stand i h small;
-      none = λ i low h small.
-          below_more (λ i. n ≤ i → planes_at i o' ≡ zeros) j
-          (λ i h low. other i (omega arith) (λ e. omega arith) ∙ so_far.none i low h (omega arith))
-          (λ low. ap (planes_at j) is ∙ stored_planes o j w inside long ∙ none) i h low;
-    }

@@ -1,19 +1,22 @@
 -- Planes of three places: loaded, stored, and read as figures' words.
 use Prim.Native.Nat.{ℕ, ◌+◌, ◌-◌, ◌<◌, ◌≤◌, ◌^◌}
 use mathlib.Core.List.{List}
+use mathlib.Core.Logic.{⊎_elim}
 use mathlib.Core.Path.{◌≡◌, ap, refl, sym, ◌∙◌}
-use native.Mathlib.Nat.{mod-eq_of_lt}
+use native.Mathlib.Nat.{eq-zero-or-pos}
 use native.Mathlib.Numerals.{add-one}
 use native.Mathlib.Omega.{arith}
+use borrow.Author.Count.{below_more}
 use lib.ListN.{get_or, get_or-replicate, length, length-set, replicate, set}
 use lib.Seq.{get_or-set_other, get_or-set_same}
 use Rattle.ring.specs.Rings.{bit_of}
 use Rattle.gate.specs.declared.sharing.Sharing.{Sharing}
 use Rattle.circuit.specs.Bits.{gather}
+use Rattle.circuit.specs.Sharings.{zeros}
 use Rattle.circuit.proofs.BitsLaw.{bit_lt, bit_none, gather-at, gather-bits, gather-ends, gather_same}
 use Rattle.decompose.specs.Words.{bits_at, stored}
 use Rattle.planes.specs.declared.places.Planes.{Planes}
-use Rattle.planes.specs.Planes.{Loaded, NoPlanes, columns, planes_at, with_planes}
+use Rattle.planes.specs.Planes.{Cleared, Loaded, NoPlanes, Whole, columns, planes_at, with_planes}
 use Rattle.planes.proofs.CellLaw.{bit_above}
 
 -- ---- columns: figure k's words
@@ -24,12 +27,6 @@ column-bits n q k j below = rw (
   gather-at n (λ i. bit_of (get_or q.p1 i 0) k) (λ i. bit_lt (get_or q.p1 i 0) k) j below,
   gather-at n (λ i. bit_of (get_or q.p2 i 0) k) (λ i. bit_lt (get_or q.p2 i 0) k) j below,
 )
-
--- 64 planes of each place
-pub record Whole (q : Planes) : Type 0 where
-  pub zero : length q.p0 ≡ 64
-  pub one : length q.p1 ≡ 64
-  pub two : length q.p2 ≡ 64
 
 pub empty_planes : NoPlanes 0 (record { p0 = replicate 64 0; p1 = replicate 64 0; p2 = replicate 64 0 })
 empty_planes = record { at = λ j from h. rw (get_or-replicate {A = ℕ} 64 j 0 0 h) refl }
@@ -88,3 +85,40 @@ column-ends n o k small none =
       ends o.p1 (λ j from h. ap (λ (w : Sharing). w.s1) (none.at j from h)),
       ends o.p2 (λ j from h. ap (λ (w : Sharing). w.s2) (none.at j from h)),
     )
+
+-- ---- planes cleared
+
+-- planes stored below e leave none from e on
+pub none_kept : {e j : ℕ} {o' : Planes} (o : Planes) (w : Sharing) → j < e → o' ≡ with_planes o j w → NoPlanes e o → NoPlanes e o'
+none_kept {j = j} o w below is none = record {
+  at = λ i from h. ap (planes_at i) is ∙ other_planes o j w i (λ e. omega arith) ∙ none.at i from h;
+}
+
+-- j planes from n on
+pub record ClearedTo (n j : ℕ) (before after : Planes) : Type 0 where
+  pub stand : (i : ℕ) → i < n → planes_at i after ≡ planes_at i before
+  pub none : (i : ℕ) → n ≤ i → i < j → planes_at i after ≡ zeros
+
+pub cleared_none : (n : ℕ) (o : Planes) → ClearedTo n n o o
+cleared_none n o = record { stand = λ i h. refl; none = λ i from h. absurd (omega arith) }
+
+pub cleared_more : {n j : ℕ} {before o o' : Planes} {w : Sharing} → n ≤ j → j < 64 → Whole o → w ≡ zeros → o' ≡ with_planes o j w
+    → ClearedTo n j before o → ClearedTo n (j + 1) before o'
+cleared_more {n} {j} {before} {o} {o'} {w} from inside whole none is so_far =
+    let other : (i : ℕ) → (i ≡ j → ⊥) → planes_at i o' ≡ planes_at i o
+    = λ i apart. ap (planes_at i) is ∙ other_planes o j w i apart in
+    record {
+      stand = λ i h. other i (λ e. omega arith) ∙ so_far.stand i h;
+      none = λ i low h.
+          below_more (λ i. n ≤ i → planes_at i o' ≡ zeros) j
+          (λ i h low. other i (λ e. omega arith) ∙ so_far.none i low h)
+          (λ low. ap (planes_at j) is ∙ stored_planes o j w inside whole ∙ none) i h low;
+    }
+
+pub cleared : {n e j : ℕ} {before after : Planes} → e ≤ j → NoPlanes e after → ClearedTo n j before after → Cleared n before after
+cleared {j = j} all above so_far = record {
+  stand = so_far.stand;
+  none = record {
+    at = λ i from h. ⊎_elim (λ far. above.at i (omega arith) h) (λ near. so_far.none i from (omega arith)) (eq-zero-or-pos (j - i));
+  };
+}

@@ -1,5 +1,5 @@
 -- 64 words by planes: plane j has bit j of each word, bit k being word k's, of one place or of three at once. Used by the code's contracts alone: no theorem's statement speaks of it.
-use Rattle.std.specs.Prelude.{ℕ, ◌+◌, ◌*◌, ◌/◌, ◌%◌, ◌<◌, ◌≤◌, ◌^◌, List, ◌≡◌, get_or, set}
+use Rattle.std.specs.Prelude.{ℕ, ◌+◌, ◌*◌, ◌/◌, ◌%◌, ◌<◌, ◌≤◌, ◌^◌, List, ◌≡◌, get_or, length, set}
 use Rattle.std.specs.Int.Bits.{bit_xor}
 use Rattle.ring.specs.Rings.{bit_of}
 use Rattle.gate.specs.Gates.{gated, word}
@@ -63,6 +63,17 @@ pub record Loaded (v : ℕ → Sharing) (x : Planes) : Type 0 where
 -- planes from e on are 0
 pub record NoPlanes (e : ℕ) (o : Planes) : Type 0 where
   pub at : (j : ℕ) → e ≤ j → j < 64 → planes_at j o ≡ zeros
+
+-- the first n planes stand, and those from n on are 0
+pub record Cleared (n : ℕ) (before after : Planes) : Type 0 where
+  pub stand : (j : ℕ) → j < n → planes_at j after ≡ planes_at j before
+  pub none : NoPlanes n after
+
+-- 64 planes of each place
+pub record Whole (q : Planes) : Type 0 where
+  pub zero : length q.p0 ≡ 64
+  pub one : length q.p1 ≡ 64
+  pub two : length q.p2 ≡ 64
 
 -- XOR of words, place by place
 abbrev pub words_xor : Sharing → Sharing → Sharing

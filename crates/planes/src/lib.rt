@@ -8,4 +8,4 @@ mod rows;
 mod squares;
 
 pub use gates::{gate_words, majority_words, words_xor};
-pub use places::{Planes, load, unload};
+pub use places::Planes;
