@@ -1,5 +1,5 @@
 -- Gates of words are gates of bits for each figure: one after others, its words stored at their own place, and n of a kind.
-use Prim.Native.Nat.{ℕ, zero, suc, ◌+◌, ◌-◌, ◌<◌, ◌≤◌}
+use Prim.Native.Nat.{ℕ, zero, suc, ◌+◌, ◌-◌, ◌<◌}
 use mathlib.Core.List.{List, [], ◌∷◌, ◌++◌, append_assoc, append-nil, map}
 use mathlib.Core.Path.{◌≡◌, ap, ap₂, refl, sym, ◌∙◌}
 use native.Mathlib.Nat.{add-zero}
@@ -13,7 +13,7 @@ use Rattle.circuit.specs.Circuits.{Gate, upto}
 use Rattle.circuit.specs.Decompose.{Digits}
 use Rattle.circuit.specs.Lent.{Long, Ran, Turned}
 use Rattle.circuit.specs.Sharings.{items_at}
-use Rattle.circuit.proofs.LentLaw.{AsLong, long_on, long_same, part_from, put_part, ran-three}
+use Rattle.circuit.proofs.LentLaw.{AsLong, long_on, part_from, put_part, ran-three}
 use Rattle.circuit.proofs.RunLaw.{length-upto}
 use Rattle.circuit.proofs.TurnLaw.{items-next, turn-ran}
 use Rattle.decompose.specs.Words.{bits_at}
@@ -76,16 +76,6 @@ sends p d₀ d₁ d₂ z k e = record {
 
 -- ---- gates of a kind
 
--- what a stage's loop keeps beside its gates: channels c at entry and d now, and the planes that it stores
-pub record Going (limit at n j : ℕ) (m₀ m₁ m₂ c₀ c₁ c₂ d₀ d₁ d₂ q : List ℕ) : Type 0 where
-  pub within : j ≤ n
-  pub few : n < limit
-  pub low : at < 200
-  pub masks : Long (at + n) m₀ m₁ m₂
-  pub room : Long (at + n) d₀ d₁ d₂
-  pub same : AsLong c₀ c₁ c₂ d₀ d₁ d₂
-  pub planes : length q ≡ 192
-
 sent_same : {at : ℕ} {z : Sharing} {c₀ c₁ c₂ d₀ d₁ d₂ : List ℕ} → SentAt at z c₀ c₁ c₂ d₀ d₁ d₂ → AsLong c₀ c₁ c₂ d₀ d₁ d₂
 sent_same {at} {z} {c₀} {c₁} {c₂} sent = record {
   zero = ap length sent.zero ∙ length-set c₀ at z.s0;
@@ -93,24 +83,12 @@ sent_same {at} {z} {c₀} {c₁} {c₂} sent = record {
   two = ap length sent.two ∙ length-set c₂ at z.s2;
 }
 
-pub going_on : {limit at n j p : ℕ} {z : Sharing} {m₀ m₁ m₂ c₀ c₁ c₂ d₀ d₁ d₂ e₀ e₁ e₂ q q' : List ℕ}
-    → Going limit at n j m₀ m₁ m₂ c₀ c₁ c₂ d₀ d₁ d₂ q → j + 1 ≤ n → SentAt p z d₀ d₁ d₂ e₀ e₁ e₂ → length q' ≡ length q
-    → Going limit at n (j + 1) m₀ m₁ m₂ c₀ c₁ c₂ e₀ e₁ e₂ q'
-going_on going more sent long =
+-- what a stage's loop keeps beside its gates: the channels are as long as they were
+pub sent_on : {p : ℕ} {z : Sharing} {c₀ c₁ c₂ d₀ d₁ d₂ e₀ e₁ e₂ : List ℕ}
+    → AsLong c₀ c₁ c₂ d₀ d₁ d₂ → SentAt p z d₀ d₁ d₂ e₀ e₁ e₂ → AsLong c₀ c₁ c₂ e₀ e₁ e₂
+sent_on same sent =
     let on = sent_same sent in
-    record {
-      within = more;
-      few = going.few;
-      low = going.low;
-      masks = going.masks;
-      room = long_same on going.room;
-      same = record {
-        zero = on.zero ∙ going.same.zero;
-        one = on.one ∙ going.same.one;
-        two = on.two ∙ going.same.two;
-      };
-      planes = long ∙ going.planes;
-    }
+    record { zero = on.zero ∙ same.zero; one = on.one ∙ same.one; two = on.two ∙ same.two }
 
 pub went_none : (at : ℕ) (g : ℕ → Gate Digits) {s r : ℕ → Place → Digits} {m c : Place → List ℕ} → ((k : ℕ) → s k ≡ r k) → Went at 0 g s r m c c
 unfolding upto

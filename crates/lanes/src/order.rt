@@ -7,13 +7,12 @@ ghost use Rattle.planes.specs.Planes.{NoPlanes};
 ghost use Rattle.lanes.specs.Stages.{Increments, Laned, SumsRan, Worked};
 
 use crate::stages::{carry_lanes, raising_lanes, running_lanes, zero_lanes};
-use crate::words::clear_planes;
-use planes::{load, unload};
+use planes::Planes;
 use ring::Ring;
 
 // (i) and (ii): the total, in s.
 fn sums(
-    x: &[u64],
+    x: &Planes,
     l: usize,
     m0: &[u64],
     m1: &[u64],
@@ -21,13 +20,11 @@ fn sums(
     c0: &mut [u64],
     c1: &mut [u64],
     c2: &mut [u64],
-    s: &mut [u64],
+    s: &mut Planes,
 )
     requires count { (1 ≤ l) × (l < 60) }
     requires masks { Long (3 * l + 1) m0.now m1.now m2.now }
     requires channels { Long (3 * l + 1) c0.old c1.old c2.old }
-    requires planes { length x.now ≡ 192 }
-    requires total { length s.old ≡ 192 }
     ensures { SumsRan l x.now s.new (at_entry m0 m1 m2) (at_entry_mut c0 c1 c2) (at_exit c0 c1 c2) }
 {
     let n = l + 1;
@@ -38,7 +35,7 @@ fn sums(
 // (iii) and (iv): the increment of the total's bits from 2 up, and the planes of the result. Planes of o from e on are 0
 // already: only those below are cleared.
 fn increment(
-    s: &[u64],
+    s: &Planes,
     l: usize,
     e: usize,
     m0: &[u64],
@@ -47,13 +44,11 @@ fn increment(
     c0: &mut [u64],
     c1: &mut [u64],
     c2: &mut [u64],
-    o: &mut [u64],
+    o: &mut Planes,
 )
     requires count { (1 ≤ l) × (l < 60) × (l ≤ e) × (e ≤ 64) }
     requires masks { Long (3 * l + 1) m0.now m1.now m2.now }
     requires channels { Long (3 * l + 1) c0.old c1.old c2.old }
-    requires total { length s.now ≡ 192 }
-    requires out { length o.old ≡ 192 }
     requires width { NoPlanes e o.old }
     ensures is { Increments l s.now o.new (at_entry m0 m1 m2) (at_entry_mut c0 c1 c2) (at_exit c0 c1 c2) }
     ensures none { NoPlanes l o.new }
@@ -62,12 +57,12 @@ fn increment(
     let n = l - 1;
     let first = zero_lanes(s, p, m0, m1, m2, c0, c1, c2);
     raising_lanes(s, first, n, p + 1, m0, m1, m2, c0, c1, c2, o);
-    clear_planes(o, l, e);
+    o.clear(l, e);
 }
 
 // From the planes of x to those of the result, in place. x has no planes from e on, the ring's width.
 fn work(
-    x: &mut [u64],
+    x: &mut Planes,
     l: usize,
     e: usize,
     m0: &[u64],
@@ -80,12 +75,11 @@ fn work(
     requires count { (1 ≤ l) × (l < 60) × (l ≤ e) × (e ≤ 64) }
     requires masks { Long (3 * l + 1) m0.now m1.now m2.now }
     requires channels { Long (3 * l + 1) c0.old c1.old c2.old }
-    requires planes { length x.old ≡ 192 }
     requires width { NoPlanes e x.old }
     ensures is { Worked l x.old x.new (at_entry m0 m1 m2) (at_entry_mut c0 c1 c2) (at_exit c0 c1 c2) }
     ensures none { NoPlanes l x.new }
 {
-    let mut s = [0; 192];
+    let mut s = Planes::new();
     sums(x, l, m0, m1, m2, c0, c1, c2, &mut s);
     increment(&s, l, e, m0, m1, m2, c0, c1, c2, x);
 }
@@ -118,8 +112,8 @@ pub fn decompose_lanes(
     ensures long { (length z0.new ≡ 64) × (length z1.new ≡ 64) × (length z2.new ≡ 64) }
 {
     let e = r.width() as usize;
-    let mut x = [0; 192];
-    load(r, a0, a1, a2, &mut x);
+    let mut x = Planes::new();
+    x.load(r, a0, a1, a2);
     work(&mut x, l, e, m0, m1, m2, c0, c1, c2);
-    unload(r, &mut x, z0, z1, z2);
+    x.unload(r, z0, z1, z2);
 }

@@ -1,19 +1,20 @@
 // The stages of order 5, each a loop over gates of one kind, from word `at` of mask slices and channels on.
-ghost use Rattle.std.specs.Prelude.{List, ◌≡◌, ℕ, ◌+◌, ◌<◌, ◌≤◌, length};
+ghost use Rattle.std.specs.Prelude.{◌≡◌, ℕ, ◌+◌, ◌<◌, ◌≤◌};
 ghost use Rattle.gate.specs.Lent.{at_entry, at_entry_mut, at_exit};
 ghost use Rattle.circuit.specs.Decompose.{carry_gate};
 ghost use Rattle.circuit.specs.Lent.{Long};
-ghost use Rattle.planes.specs.Planes.{NoPlanes, planes_at};
+ghost use Rattle.planes.specs.Planes.{NoPlanes, Whole, planes_at};
+ghost use Rattle.planes.specs.declared.places.Planes.{Planes};
 ghost use Rattle.lanes.specs.Stages.{Raising, Running, Totals, Went, Zeroed, carried, fresh};
 
 use crate::words::{send_at, total_in};
 use circuit::{items_at, zeros};
 use gate::Sharing;
-use planes::{gate_words, majority_words, planes_at, store_planes, words_xor};
+use planes::{Planes, gate_words, majority_words, words_xor};
 
 // (i) The carries: n gates.
 pub fn carry_lanes(
-    x: &[u64],
+    x: &Planes,
     n: usize,
     at: usize,
     m0: &[u64],
@@ -22,20 +23,17 @@ pub fn carry_lanes(
     c0: &mut [u64],
     c1: &mut [u64],
     c2: &mut [u64],
-    q: &mut [u64],
+    q: &mut Planes,
 )
     requires count { (n < 63) × (at < 200) }
-    requires planes { length x.now ≡ 192 }
     requires masks { Long (at + n) m0.now m1.now m2.now }
     requires channels { Long (at + n) c0.old c1.old c2.old }
-    requires carries { length q.old ≡ 192 }
     ensures { Went at n carry_gate (fresh x.now) (carried x.now q.new (n + 1))
         (at_entry m0 m1 m2) (at_entry_mut c0 c1 c2) (at_exit c0 c1 c2) }
 {
-    store_planes(q, 0, zeros());
-    let mut j = 0;
-    while j < n {
-        let b = planes_at(x, j);
+    q.store(0, zeros());
+    for j in 0..n {
+        let b = x.at(j);
         let t = items_at(m0, m1, m2, at + j);
         let first = Sharing {
             s0: b.s0,
@@ -54,14 +52,13 @@ pub fn carry_lanes(
         };
         let z = majority_words(first, second, third, t);
         send_at(c0, c1, c2, at + j, z);
-        store_planes(q, j + 1, words_xor(third, z));
-        j += 1;
+        q.store(j + 1, words_xor(third, z));
     }
 }
 
 // (ii) The running carries: n gates, from bit 1 on. The total takes the place of the carries.
 pub fn running_lanes(
-    x: &[u64],
+    x: &Planes,
     n: usize,
     at: usize,
     m0: &[u64],
@@ -70,34 +67,30 @@ pub fn running_lanes(
     c0: &mut [u64],
     c1: &mut [u64],
     c2: &mut [u64],
-    s: &mut [u64],
+    s: &mut Planes,
 )
     requires count { (n < 62) × (at < 200) }
-    requires planes { length x.now ≡ 192 }
     requires masks { Long (at + n) m0.now m1.now m2.now }
     requires channels { Long (at + n) c0.old c1.old c2.old }
-    requires carries { length s.old ≡ 192 }
     ensures { Running at n x.now s.old s.new (at_entry m0 m1 m2) (at_entry_mut c0 c1 c2) (at_exit c0 c1 c2) }
 {
     let mut last = zeros();
     total_in(x, s, 0, last);
-    let mut i = 0;
-    while i < n {
-        let b = planes_at(x, i + 1);
-        let u = planes_at(s, i + 1);
+    for i in 0..n {
+        let b = x.at(i + 1);
+        let u = s.at(i + 1);
         let t = items_at(m0, m1, m2, at + i);
         let z = majority_words(b, u, last, t);
         send_at(c0, c1, c2, at + i, z);
         total_in(x, s, i + 1, last);
         last = words_xor(last, z);
-        i += 1;
     }
     total_in(x, s, n + 1, last);
 }
 
 // (iii) The first carry of the increment: one gate.
 pub fn zero_lanes(
-    s: &[u64],
+    s: &Planes,
     at: usize,
     m0: &[u64],
     m1: &[u64],
@@ -107,14 +100,13 @@ pub fn zero_lanes(
     c2: &mut [u64],
 ) -> Sharing
     requires low { at < 200 }
-    requires total { length s.now ≡ 192 }
     requires masks { Long (at + 1) m0.now m1.now m2.now }
     requires channels { Long (at + 1) c0.old c1.old c2.old }
-    ensures { (n : ℕ) (x q r : List ℕ) → 1 < n → n ≤ 64 → Totals n x q r s.now
+    ensures { (n : ℕ) (x q r : Planes) → 1 < n → n ≤ 64 → Totals n x q r s.now
         → Zeroed at n x q r result (at_entry m0 m1 m2) (at_entry_mut c0 c1 c2) (at_exit c0 c1 c2) }
 {
-    let left = planes_at(s, 0);
-    let right = planes_at(s, 1);
+    let left = s.at(0);
+    let right = s.at(1);
     let t = items_at(m0, m1, m2, at);
     let z = gate_words(left, right, t);
     send_at(c0, c1, c2, at, z);
@@ -124,7 +116,7 @@ pub fn zero_lanes(
 // (iv) The carries of the increment from the first, which is given: n gates, and n + 1 planes of the result. Planes above
 // stand.
 pub fn raising_lanes(
-    s: &[u64],
+    s: &Planes,
     first: Sharing,
     n: usize,
     at: usize,
@@ -134,28 +126,24 @@ pub fn raising_lanes(
     c0: &mut [u64],
     c1: &mut [u64],
     c2: &mut [u64],
-    o: &mut [u64],
+    o: &mut Planes,
 )
     requires count { (n < 61) × (at < 200) }
-    requires total { length s.now ≡ 192 }
     requires masks { Long (at + n) m0.now m1.now m2.now }
     requires channels { Long (at + n) c0.old c1.old c2.old }
-    requires out { length o.old ≡ 192 }
-    ensures is { (x q r a₀ : List ℕ) → Totals (n + 3) x q r s.now → length a₀ ≡ 192 → first ≡ planes_at 0 a₀
+    ensures is { (x q r a₀ : Planes) → Totals (n + 3) x q r s.now → Whole a₀ → first ≡ planes_at 0 a₀
         → Raising at n x q r a₀ o.new (at_entry m0 m1 m2) (at_entry_mut c0 c1 c2) (at_exit c0 c1 c2) }
     ensures none { (e : ℕ) → n < e → NoPlanes e o.old → NoPlanes e o.new }
 {
     let mut carry = first;
-    let mut j = 0;
-    while j < n {
-        let b = planes_at(s, j + 2);
+    for j in 0..n {
+        let b = s.at(j + 2);
         let t = items_at(m0, m1, m2, at + j);
         let z = gate_words(b, carry, t);
         send_at(c0, c1, c2, at + j, z);
-        store_planes(o, j, words_xor(b, carry));
+        o.store(j, words_xor(b, carry));
         carry = z;
-        j += 1;
     }
-    let top = planes_at(s, n + 2);
-    store_planes(o, n, words_xor(top, carry));
+    let top = s.at(n + 2);
+    o.store(n, words_xor(top, carry));
 }

@@ -1,5 +1,5 @@
 -- Planes of three places: loaded, stored, and read as figures' words.
-use Prim.Native.Nat.{ℕ, ◌+◌, ◌-◌, ◌<◌, ◌≤◌, ◌^◌}
+use Prim.Native.Nat.{ℕ, ◌+◌, ◌-◌, ◌<◌, ◌≤◌}
 use mathlib.Core.List.{List}
 use mathlib.Core.Logic.{⊎_elim}
 use mathlib.Core.Path.{◌≡◌, ap, refl, sym, ◌∙◌}
@@ -7,17 +7,16 @@ use native.Mathlib.Nat.{eq-zero-or-pos}
 use native.Mathlib.Numerals.{add-one}
 use native.Mathlib.Omega.{arith}
 use borrow.Author.Count.{below_more}
-use lib.ListN.{get_or, get_or-replicate, length, length-set, replicate, set}
+use lib.ListN.{get_or, get_or-replicate, length-set, replicate, set}
 use lib.Seq.{get_or-set_other, get_or-set_same}
 use Rattle.ring.specs.Rings.{bit_of}
 use Rattle.gate.specs.declared.sharing.Sharing.{Sharing}
 use Rattle.circuit.specs.Bits.{gather}
 use Rattle.circuit.specs.Sharings.{zeros}
-use Rattle.circuit.proofs.BitsLaw.{bit_lt, bit_none, gather-at, gather-bits, gather-ends, gather_same}
+use Rattle.circuit.proofs.BitsLaw.{bit_lt, bit_none, gather-at, gather-ends, gather_same}
 use Rattle.decompose.specs.Words.{bits_at, stored}
 use Rattle.planes.specs.declared.places.Planes.{Planes}
-use Rattle.planes.specs.Planes.{Cleared, Loaded, NoPlanes, Whole, columns, planes_at, with_planes}
-use Rattle.planes.proofs.CellLaw.{bit_above}
+use Rattle.planes.specs.Planes.{Cleared, NoPlanes, Whole, columns, planes_at, with_planes}
 
 -- ---- columns: figure k's words
 
@@ -55,9 +54,9 @@ module _ (q : Planes) (n : ℕ) (w : Sharing) where
   )
 
   -- one more plane is one more bit of each figure's words
-  pub column_more : (k : ℕ) → n < 64 → Whole q → columns (n + 1) (with_planes q n w) k ≡ stored (columns n q k) (bits_at w k) n
+  pub column_more : n < 64 → Whole q → (k : ℕ) → columns (n + 1) (with_planes q n w) k ≡ stored (columns n q k) (bits_at w k) n
   unfolding gather
-  column_more k below whole =
+  column_more below whole k =
       let low : (p : List ℕ) (v : ℕ) → gather n (λ j. bit_of (get_or (set p n v) j 0) k) ≡ gather n (λ j. bit_of (get_or p j 0) k)
       = λ p v. gather_same n (λ j h. ap (λ (u : ℕ). bit_of u k) (get_or-set_other p n j v 0 (λ e. omega arith))) in
       let first = stored_planes below whole in

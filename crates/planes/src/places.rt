@@ -3,7 +3,7 @@ ghost use Rattle.std.specs.Prelude.{◌≡◌, ◌<◌, ◌≤◌, length};
 ghost use Rattle.ring.specs.Rings.{modulus_of, width_of};
 ghost use Rattle.circuit.specs.Lent.{ItemsBelow};
 ghost use Rattle.circuit.specs.Sharings.{four_times, items_at};
-ghost use Rattle.planes.specs.Planes.{Cleared, Loaded, NoPlanes, planes_at, with_planes};
+ghost use Rattle.planes.specs.Planes.{Cleared, Loaded, NoPlanes, Whole, planes_at, with_planes};
 
 use crate::rows::{planes_of, rows_of};
 use circuit::zeros;
@@ -11,6 +11,7 @@ use gate::Sharing;
 use ring::Ring;
 
 // Sixty-four planes of each of three places.
+#[derive(Drop)]
 pub struct Planes {
     p0: [u64; 64],
     p1: [u64; 64],
@@ -32,7 +33,8 @@ impl Planes {
     // Plane j of the three places.
     pub fn at(&self, j: usize) -> Sharing
         requires { j < 64 }
-        ensures { result ≡ planes_at j self.now }
+        ensures is { result ≡ planes_at j self.now }
+        ensures whole { Whole self.now }
     {
         Sharing {
             s0: self.p0[j],
@@ -44,7 +46,8 @@ impl Planes {
     // Stores plane j of the three places.
     pub fn store(&mut self, j: usize, w: Sharing)
         requires { j < 64 }
-        ensures { self.new ≡ with_planes self.old j w }
+        ensures is { self.new ≡ with_planes self.old j w }
+        ensures whole { Whole self.old }
     {
         self.p0[j] = w.s0;
         self.p1[j] = w.s1;

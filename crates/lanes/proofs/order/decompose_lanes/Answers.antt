@@ -1,11 +1,11 @@
-use borrow.Author.Rules.{rules}
+use Prim.Native.Nat.{zero-le}
 use Rattle.ring.specs.Rings.{width_of}
-use Rattle.lanes.proofs.OrderLaw.{laned, zeros_none}
+use Rattle.lanes.proofs.OrderLaw.{laned}
 use Rattle.lanes.proofs.order.decompose_lanes.Goals as goal
 
 pub load-requires : goal.load-requires
 load-requires c =
-    record { lengths = c.requires.lengths; room = search rules; source = c.requires.source; empty = zeros_none 32 }
+    record { lengths = c.requires.lengths; source = c.requires.source; empty = record { at = λ j from h. c.new-x.ensures.at j zero-le h } }
 
 pub returns : goal.returns
 returns c =
