@@ -4,5 +4,6 @@ pub mod Compose
 pub mod Decompose
 pub mod Figures
 pub mod Lent
+pub mod Loans
 pub mod Orders
 pub mod Sharings

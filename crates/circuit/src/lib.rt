@@ -2,6 +2,8 @@
 // The orders' code is in `decompose`, `compose` and `shift`.
 #![tactic(auto)]
 
+mod lent;
 mod sharings;
 
+pub use lent::Lent;
 pub use sharings::{four_times, items_at, zeros};

@@ -36,8 +36,5 @@ pub fn four_times(r: Ring, a: Sharing) -> Sharing
     requires { InRange (modulus_of r) a }
     ensures { result ≡ four_times (modulus_of r) a }
 {
-    let s0 = r.four_times(a.s0);
-    let s1 = r.four_times(a.s1);
-    let s2 = r.four_times(a.s2);
-    Sharing { s0, s1, s2 }
+    a.map(|s| r.four_times(s))
 }

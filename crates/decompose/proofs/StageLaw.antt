@@ -3,7 +3,8 @@ use Prim.Native.Nat.{ℕ, ◌+◌, ◌-◌, ◌<◌, ◌≤◌, ◌^◌}
 use mathlib.Core.List.{List, ◌∷◌, ◌++◌}
 use mathlib.Core.Path.{◌≡◌, ap, fun_ext, refl, sym, ◌∙◌}
 use native.Mathlib.Omega.{arith}
-use lib.ListN.{length}
+use lib.Bits.{xor_zero_r}
+use lib.ListN.{length, take}
 use Rattle.ring.specs.Rings.{bit_of, modulus}
 use Rattle.gate.specs.Places.{InRange, Place, parts, tabled, three}
 use Rattle.gate.specs.declared.sharing.Sharing.{Sharing}
@@ -14,18 +15,14 @@ use Rattle.circuit.specs.Lent.{Left, Long, Ran}
 use Rattle.circuit.specs.Orders.{decomposition}
 use Rattle.circuit.specs.Sharings.{four_times, zeros}
 use Rattle.circuit.proofs.BitsLaw.{stored_bit}
-use Rattle.circuit.proofs.LentLaw.{AsLong, left_of, long_less, long_on, long_same, part_from, parts_from, put_back, ran-three}
+use Rattle.circuit.proofs.LentLaw.{left_of}
+use Rattle.circuit.proofs.LoanLaw.{ran_then}
+use Rattle.circuit.proofs.RunLaw.{drops}
 use Rattle.decompose.specs.Turns.{Ended}
 use Rattle.decompose.specs.Words.{bits_at, digits_of, finished, stored, totalled}
 use Rattle.decompose.proofs.GateLaw.{digits_gather}
 
--- what a stage's loop keeps beside its gates: channels c at entry and d now, and words w of b bits
-pub record Kept (n k b : ℕ) (w : Sharing) (c₀ c₁ c₂ d₀ d₁ d₂ : List ℕ) : Type 0 where
-  pub within : k ≤ n
-  pub same : AsLong c₀ c₁ c₂ d₀ d₁ d₂
-  pub words : InRange (2 ^ b) w
-
--- and the bits that it stored last, as bit k of its words
+-- the bits that a stage stored last, as bit k of its words
 pub record Last (k : ℕ) (w last : Sharing) : Type 0 where
   pub is : last ≡ bits_at w k
   pub bits : InRange 2 last
@@ -45,19 +42,19 @@ lowest h = omega arith
 pub first-last : {w : Sharing} → InRange 2 w → Last 0 w w
 first-last h = record { is = rw (lowest h.zero, lowest h.one, lowest h.two); bits = h }
 
--- so the next turn has room
-pub room_next : {n k b : ℕ} {w : Sharing} {c₀ c₁ c₂ d₀ d₁ d₂ : List ℕ}
-    → Kept n k b w c₀ c₁ c₂ d₀ d₁ d₂ → Long n c₀ c₁ c₂ → k + 1 ≤ n → Long 1 (part_from k d₀) (part_from k d₁) (part_from k d₂)
-room_next {k = k} kept long more = long_on 1 k (long_less more (long_same kept.same long))
+-- a total is made of itself and of nothing
+pub totalled_alone : (total : Sharing) → total ≡ totalled total zeros zeros
+totalled_alone total = rw (xor_zero_r total.s0, xor_zero_r total.s0, xor_zero_r total.s1, xor_zero_r total.s1, xor_zero_r total.s2, xor_zero_r total.s2) refl
 
 -- a stretch before gates that give bits, and the gates at whose end the bits are taken
-pub ended-rest : {G H : List (Gate Digits)} {s r : Place → Digits} {c : Place → List ℕ} {z : Sharing} {k : ℕ} {m₀ m₁ m₂ d₀ d₁ d₂ e₀ e₁ e₂ : List ℕ} (l : ℕ)
+pub ended_then : {G H : List (Gate Digits)} {s r : Place → Digits} {T c d e : Place → List ℕ} {z : Sharing} {k : ℕ} (l : ℕ)
     → length G ≡ k
-    → Ran G s (three m₀ m₁ m₂) c r (three d₀ d₁ d₂)
-    → Ended l H r (parts_from k m₀ m₁ m₂) (parts_from k d₀ d₁ d₂) z (three e₀ e₁ e₂)
-    → Ended l (G ++ H) s (three m₀ m₁ m₂) c z (put_back k d₀ d₁ d₂ e₀ e₁ e₂)
-ended-rest l counted a b =
-    let ran = ran-three counted a b.ran in
+    → Ran G s T c r d
+    → Ended l H r (drops k T) (drops k d) z (drops k e)
+    → ((i : Place) → take k (e i) ≡ take k (d i))
+    → Ended l (G ++ H) s T c z e
+ended_then l counted a b kept =
+    let ran = ran_then counted a b.ran kept in
     record {
       ran = record { states = refl; channels = ran.channels };
       is = b.is ∙ ap (λ (s : Place → Digits). tabled (λ i. gather l (digit i (s i)))) (sym ran.states);

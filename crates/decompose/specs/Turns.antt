@@ -18,3 +18,7 @@ majority_words x y c t = sharing (gated 2 (parts (bits_xor x c)) (parts (bits_xo
 pub record Ended (l : ℕ) (G : List (Gate Digits)) (s : Place → Digits) (T c : Place → List ℕ) (z : Sharing) (d : Place → List ℕ) : Type 0 where
   pub ran : Ran G s T c (ends G s T) d
   pub is : parts z ≡ tabled (λ i. gather l (digit i (ends G s T i)))
+
+-- and from a position on
+abbrev pub bits_ended : ℕ → List (Gate Digits) → (Place → Digits) → Sharing → (T c d : Place → List ℕ) → Type 0
+bits_ended l G s z T c d = Ended l G s T c z d

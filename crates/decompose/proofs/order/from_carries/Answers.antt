@@ -1,27 +1,18 @@
--- The running gates, then the increment on what is left from index l on.
+-- The running gates, then the increment.
 use Prim.Native.Nat.{◌+◌}
+use native.Mathlib.Omega.{arith}
 use Rattle.circuit.specs.Decompose.{running_gate}
-use Rattle.circuit.proofs.LentLaw.{AsLong, below_on, long_on, long_same}
+use Rattle.circuit.proofs.LoanLaw.{sends_then, supplied_later}
 use Rattle.circuit.proofs.RunLaw.{length-upto}
-use Rattle.decompose.proofs.StageLaw.{ended-rest}
+use Rattle.decompose.proofs.StageLaw.{ended_then}
 use Rattle.decompose.proofs.order.from_carries.Goals as goal
 
-pub increment-requires : goal.increment-requires
-increment-requires c =
-    let l = c.args.l in
-    let same : AsLong _ _ _ c.running_stage-running.new.c0 c.running_stage-running.new.c1 c.running_stage-running.new.c2
-    = record { zero = c.c0-1.given; one = c.c1-1.given; two = c.c2-1.given } in
-    let channels = long_same same c.requires.channels in
-    record {
-      count = c.requires.count;
-      masks = long_on l l c.requires.masks;
-      channels = long_on l l channels;
-      items = below_on 2 l l c.requires.items;
-    }
+pub increment-requires-clause-supplied : goal.increment-requires-clause-supplied
+increment-requires-clause-supplied c = supplied_later c.args.l c.args.l (omega arith) c.requires.supplied c.running_stage-running.ensures
 
-pub returns : goal.returns
-returns c =
-    let running = c.running_stage-running in
+pub returns-clause-ended : goal.returns-clause-ended
+returns-clause-ended c =
     let l = c.args.l in
-    let ended = c.increment.ensures.ended c.args.x c.args.carries running.result c.totals-total.ensures in
-    record { ended = ended-rest l (length-upto (λ k. running_gate (k + 1)) l) running.ensures ended; below = c.increment.ensures.below }
+    let running = c.running_stage-running in
+    sends_then running.ensures (c.increment.ensures.ended c.args.x c.args.carries running.result c.totals-total.ensures)
+    (λ T c₀ d e first second kept. ended_then l (length-upto (λ k. running_gate (k + 1)) l) first second kept)

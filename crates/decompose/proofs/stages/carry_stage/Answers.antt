@@ -1,38 +1,24 @@
 -- Invariant: j carry gates ran, and the carries have j + 1 bits.
-use mathlib.Core.Path.{ap, sym, ◌≡◌, refl, ◌∙◌}
+use mathlib.Core.Path.{ap, sym}
 use native.Mathlib.Omega.{arith}
 use Rattle.gate.specs.declared.sharing.Sharing.{Sharing}
 use Rattle.circuit.specs.Decompose.{carry_gate}
 use Rattle.circuit.specs.Sharings.{zeros}
-use Rattle.circuit.proofs.TurnLaw.{no_gates, one_more}
+use Rattle.circuit.proofs.LoanLaw.{more_sent, none_sent, supplied_later}
 use Rattle.decompose.specs.Words.{digits_of}
-use Rattle.decompose.proofs.StageLaw.{room_next}
 use Rattle.decompose.proofs.stages.carry_stage.Goals as goal
 
 pub loop-j-init : goal.loop-j-init
 loop-j-init c = (
-  record { within = omega arith; same = record { zero = refl; one = refl; two = refl }; words = rw c.zeros-carries.ensures (omega arith) },
-  no_gates carry_gate (ap (λ (w : Sharing). digits_of c.args.x w zeros zeros) (sym c.zeros-carries.ensures)),
+  rw c.zeros-carries.ensures (omega arith),
+  none_sent carry_gate _ (ap (λ (w : Sharing). digits_of c.args.x w zeros zeros) (sym c.zeros-carries.ensures)),
 )
 
-pub loop-j-preserved : goal.loop-j-preserved
-loop-j-preserved c =
-    let head = c.loop-j in
-    let kept = head.invariant.0 in
-    let room = room_next kept c.requires.channels (omega arith) in (
-      record {
-        within = omega arith;
-        same = record {
-          zero = c.c0-1.given.1 ∙ kept.same.zero;
-          one = c.c1-1.given.1 ∙ kept.same.one;
-          two = c.c2-1.given.1 ∙ kept.same.two;
-        };
-        words = c.carry_turn-carries.ensures.below;
-      },
-      one_more carry_gate head.j c.items_at-t.ensures head.invariant.1 room c.carry_turn-carries.ensures.turned,
-    )
+pub carry_turn-carries-requires-clause-supplied : goal.carry_turn-carries-requires-clause-supplied
+carry_turn-carries-requires-clause-supplied c = supplied_later c.loop-j.j 1 (omega arith) c.requires.supplied c.loop-j.invariant.1
 
-pub returns : goal.returns
-returns c =
-    let same : c.loop-j.j ≡ c.args.n = omega arith in
-    rw same at c.loop-j.invariant.1
+pub loop-j-preserved : goal.loop-j-preserved
+loop-j-preserved c = (
+  c.carry_turn-carries.ensures.below,
+  more_sent carry_gate c.loop-j.j c.loop-j.invariant.1 c.carry_turn-carries.ensures.ran,
+)

@@ -1,18 +1,13 @@
-use Prim.Native.Nat.{◌+◌, ◌-◌}
-use Rattle.gate.specs.Places.{three}
+use Prim.Native.Nat.{◌+◌, ◌^◌}
+use Rattle.gate.specs.Places.{InRange}
 use Rattle.circuit.specs.Circuits.{upto}
 use Rattle.circuit.specs.Decompose.{carry_gate}
-use Rattle.circuit.specs.Lent.{Ran}
+use Rattle.circuit.specs.Loans.{Sends, gates_ran}
 use Rattle.circuit.specs.Sharings.{zeros}
 use Rattle.decompose.specs.Words.{digits_of}
-use Rattle.decompose.proofs.StageLaw.{Kept}
 use Rattle.decompose.proofs.stages.carry_stage.Given as goal
 
 abbrev pub invariant-loop-j : goal.invariant-loop-j
 invariant-loop-j l =
-    Kept l.n l.j (l.j + 1) l.carries l.initial.c0 l.initial.c1 l.initial.c2 l.c0 l.c1 l.c2
-    × Ran (upto carry_gate l.j) (digits_of l.x zeros zeros zeros) (three l.m0 l.m1 l.m2) (three l.initial.c0 l.initial.c1 l.initial.c2)
-    (digits_of l.x l.carries zeros zeros) (three l.c0 l.c1 l.c2)
-
-abbrev pub decreases-loop-j : goal.decreases-loop-j
-decreases-loop-j l = l.n - l.j
+    InRange (2 ^ (l.j + 1)) l.carries
+    × Sends l.j (gates_ran (upto carry_gate l.j) (digits_of l.x zeros zeros zeros) (digits_of l.x l.carries zeros zeros)) l.initial.lent l.lent

@@ -1,9 +1,12 @@
-use Rattle.decompose.proofs.GateLaw.{majority_is}
+use mathlib.Core.Path.{◌≡◌}
+use Rattle.circuit.specs.Loans.{items_next}
+use Rattle.gate.specs.Gates.{gated}
+use Rattle.gate.specs.Places.{parts, sharing}
+use Rattle.std.proofs.Common.{rules}
 use Rattle.decompose.proofs.turns.majority.Goals as goal
 
-pub returns : goal.returns
-returns c =
-    let both = majority_is c.args.x c.args.y c.args.c c.args.t
-    c.xors-left.ensures.is c.xors-right.ensures.is
-    c.bit_gate-z.ensures.is c.bit_gate-z.ensures.sent c.xors.ensures.is in
-    record { is = both.0; below = c.xors.ensures.below; sent = both.1 }
+pub returns-clause-is : goal.returns-clause-is
+returns-clause-is c =
+    let word : c.gate-z.result ≡ sharing (gated 2 (parts c.xors-left.result) (parts c.xors-right.result) (parts (items_next c.args.lent.now)))
+    = search rules in
+    rw (c.xors.ensures.is, word, c.xors-left.ensures.is, c.xors-right.ensures.is)
