@@ -104,6 +104,9 @@ sends_then {n} {k} {P} {Q} {R} {u} {v} {w} a b on =
       same = same_then n a.at a.same b.same;
     }
 
+pub sends_count : {n k : ℕ} {P : (T c d : Place → List ℕ) → Type 0} {v w : Lent} → n ≡ k → Sends n P v w → Sends k P v w
+sends_count e sends = rw e at sends
+
 -- ---- gates of a kind
 
 module _ {S : Type 0} where

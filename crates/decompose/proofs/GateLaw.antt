@@ -1,12 +1,13 @@
 -- Order 5's gates on states that are made of words: their factors are bits of the words.
 use Prim.Native.Nat.{ℕ, ◌+◌, ◌/◌}
 use mathlib.Core.List.{List}
-use mathlib.Core.Path.{◌≡◌, ap, ap₂, fun_ext, sym, ◌∙◌}
+use mathlib.Core.Path.{◌≡◌, ap, ap₂, fun_ext, refl, sym, ◌∙◌}
 use native.Mathlib.Omega.{arith}
-use lib.Bits.{bit_xor}
+use lib.Bits.{bit_xor, xor_lt}
 use Rattle.ring.specs.Rings.{bit_of}
+use Rattle.ring.proofs.BitLaw.{xor_bit}
 use Rattle.gate.specs.Gates.{gated}
-use Rattle.gate.specs.Places.{Place, Sent, p0, p1, p2, parts, sharing, tabled}
+use Rattle.gate.specs.Places.{InRange, Place, Sent, p0, p1, p2, parts, sharing, tabled}
 use Rattle.gate.specs.declared.sharing.Sharing.{Sharing}
 use Rattle.circuit.specs.Bits.{gather, xor}
 use Rattle.circuit.specs.Circuits.{after, words}
@@ -50,17 +51,13 @@ module _ (x carries running raising : Sharing) where
   digits_gather l p1 = gathered l (totalled x carries running).s1 raising.s1 (λ j. total_bit_lem (j + 2) p1)
   digits_gather l p2 = gathered l (totalled x carries running).s2 raising.s2 (λ j. total_bit_lem (j + 2) p2)
 
--- the majority's words and its bits
-pub majority_is : (x y c t : Sharing) {left right z b : Sharing} {c₀ c₁ c₂ d₀ d₁ d₂ : List ℕ}
-    → left ≡ bits_xor x c
-    → right ≡ bits_xor y c
-    → z ≡ sharing (gated 2 (parts left) (parts right) (parts t))
-    → Sent z c₀ c₁ c₂ d₀ d₁ d₂
-    → b ≡ bits_xor c z
-    → (b ≡ bits_xor c (majority_words x y c t)) × Sent (majority_words x y c t) c₀ c₁ c₂ d₀ d₁ d₂
-majority_is x y c t {z = z} hl hr hz sent hb =
-    let said : z ≡ majority_words x y c t = rw (hz, hl, hr) in
-    (hb ∙ ap (bits_xor c) said, rw said at sent)
+-- XOR of words that are bits
+pub xor_bits : {a b z : Sharing} → z ≡ record { s0 = bit_xor a.s0 b.s0; s1 = bit_xor a.s1 b.s1; s2 = bit_xor a.s2 b.s2 }
+    → InRange 2 a → InRange 2 b → (z ≡ bits_xor a b) × InRange 2 z
+xor_bits is ha hb = (
+  is ∙ rw (xor_bit ha.zero hb.zero, xor_bit ha.one hb.one, xor_bit ha.two hb.two) refl,
+  rw is (record { zero = xor_lt 1 _ _ ha.zero hb.zero; one = xor_lt 1 _ _ ha.one hb.one; two = xor_lt 1 _ _ ha.two hb.two }),
+)
 
 -- (i) the carry gate, on bits that are known at one place each
 abbrev pub at_zero : Sharing → Sharing

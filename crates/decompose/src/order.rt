@@ -13,7 +13,7 @@ ghost use Rattle.decompose.specs.Words.{digits_of, totalled};
 
 use crate::stages::{carry_stage, raising_stage, running_stage};
 use crate::turns::zero_turn;
-use crate::words::{finish, totals};
+use crate::words::finish;
 use circuit::{Lent, four_times};
 use gate::Sharing;
 use ring::Ring;
@@ -39,7 +39,7 @@ fn from_carries(x: Sharing, carries: Sharing, l: u64, lent: &mut Lent<'_>) -> Sh
     ensures below { InRange (2 ^ l) result }
 {
     let running = running_stage(x, carries, l, lent);
-    let total = totals(x, carries, running);
+    let total = x ^ carries ^ running;
     increment(total, l, lent)
 }
 

@@ -8,7 +8,7 @@ ghost use Rattle.circuit.specs.Sharings.{zeros};
 ghost use Rattle.decompose.specs.Turns.{majority_words};
 ghost use Rattle.decompose.specs.Words.{bits_at, bits_xor, digits_of, stored, totalled};
 
-use crate::words::{bits, store, xors};
+use crate::words::{bits, store};
 use circuit::Lent;
 use gate::{Sharing, bit_words};
 
@@ -22,10 +22,10 @@ fn majority(x: Sharing, y: Sharing, c: Sharing, lent: &mut Lent<'_>) -> Sharing
     ensures below { InRange 2 result }
     ensures sent { Sends 1 (words_sent (majority_words x y c (items_next lent.old))) lent.old lent.new }
 {
-    let left = xors(x, c);
-    let right = xors(y, c);
+    let left = x ^ c;
+    let right = y ^ c;
     let z = lent.gate(|t| bit_words(left, right, t));
-    xors(c, z)
+    c ^ z
 }
 
 // Carry j + 1, from bits j of x_0, x_1 and x_2, each known at one place.
@@ -86,7 +86,7 @@ pub fn zero_turn(total: Sharing, lent: &mut Lent<'_>) -> Sharing
     let left = bits(total, 0);
     let right = bits(total, 1);
     let z = lent.gate(|t| bit_words(left, right, t));
-    xors(xors(left, right), z)
+    left ^ right ^ z
 }
 
 // Carry j + 1 of the increment, from bit j + 2 of T and carry j, which is the last.

@@ -1,12 +1,14 @@
 -- The words as the code works them out are the definition's.
-use Prim.Native.Nat.{ℕ, ◌+◌, ◌*◌, ◌-◌, ◌%◌, ◌<◌, ◌≤◌}
+use Prim.Native.Nat.{ℕ, ◌+◌, ◌*◌, ◌-◌, ◌/◌, ◌%◌, ◌<◌, ◌≤◌, ◌^◌}
 use mathlib.Core.Path.{◌≡◌, ◌∙◌, ap, sym}
-use native.Mathlib.Nat.{le_refl, mod-eq_of_lt, mul-le-mul}
+use native.Mathlib.Nat.{le_refl, mod-eq_of_lt, mod-lt, mul-le-mul}
 use native.Mathlib.Omega.{arith}
-use lib.Bits.{and_lt, bit_and, bit_xor, xor_lt}
+use lib.Bits.{and_lt, and_mod, and_shr, bit_and, bit_xor, xor_lt, xor_mod, xor_shr}
 use Rattle.ring.specs.Modular.{Cong, diff}
 use Rattle.ring.proofs.BitLaw.{and_bit, xor_bit}
 use Rattle.ring.proofs.CongLaw.{cong_add, cong_mod, cong_mul, cong_of_eq, cong_refl, cong_sym, cong_trans}
+use Rattle.ring.specs.Rings.{bit_of}
+use Rattle.gate.specs.Words.{GateWords, Sliced, pair_at}
 use Rattle.gate.specs.Gates.{crossed, gated, mask, word}
 use Rattle.gate.specs.Places.{InRange, Pair, PairBelow, Place, held, next, p0, p1, p2, pair, parts, sharing, three}
 use Rattle.gate.specs.declared.sharing.Sharing.{Sharing}
@@ -83,6 +85,36 @@ module _ (x xf y yf t tf : ℕ) (hx : PairBelow 2 (pair x xf)) (hy : PairBelow 2
       (cong_add (cong_of_eq (and_bit hx.own sum_lt)) (cong_of_eq (and_bit hx.far hy.own)))) in
       masked_bit _ t tf _ _ (xor_bit crossed-lt ht.own) (xor_bit masked_lt ht.far)
       ∙ word_from 2 x xf y yf t tf _ (cong_trans products (two_products 2 x xf y yf _ (xor_bit hy.own hy.far))) (cong_refl _)
+
+-- bit k of an exclusive or, and of an and, of words
+lane_xor : (a b k : ℕ) → bit_of (bit_xor a b) k ≡ bit_xor (bit_of a k) (bit_of b k)
+unfolding bit_of
+lane_xor a b k = ap (λ (n : ℕ). n % 2) (xor_shr a b k) ∙ xor_mod (a / 2 ^ k) (b / 2 ^ k) 1
+
+lane_and : (a b k : ℕ) → bit_of (bit_and a b) k ≡ bit_and (bit_of a k) (bit_of b k)
+unfolding bit_of
+lane_and a b k = ap (λ (n : ℕ). n % 2) (and_shr a b k) ∙ and_mod (a / 2 ^ k) (b / 2 ^ k) 1
+
+pair_below : (own far k : ℕ) → PairBelow 2 (pair_at own far k)
+unfolding bit_of
+pair_below own far k = record { own = mod-lt (own / 2 ^ k) (omega arith); far = mod-lt (far / 2 ^ k) (omega arith) }
+
+pub sliced_is : (x xf y yf t tf : ℕ) → Sliced x xf y yf t tf (bit_xor (bit_xor (bit_xor (bit_and x (bit_xor y yf)) (bit_and xf y)) t) tf)
+sliced_is x xf y yf t tf = record {
+  at = λ k.
+      simp (lane_xor, lane_and)
+      (bit_word_is (bit_of x k) (bit_of xf k) (bit_of y k) (bit_of yf k) (bit_of t k) (bit_of tf k)
+      (pair_below x xf k) (pair_below y yf k) (pair_below t tf k));
+}
+
+-- three parties' words
+pub gate-words : (x y t : Sharing) {z₀ z₁ z₂ : ℕ}
+    → Sliced x.s0 x.s1 y.s0 y.s1 t.s0 t.s1 z₀
+    → Sliced x.s1 x.s2 y.s1 y.s2 t.s1 t.s2 z₁
+    → Sliced x.s2 x.s0 y.s2 y.s0 t.s2 t.s0 z₂
+    → GateWords x y t (record { s0 = z₀; s1 = z₁; s2 = z₂ })
+unfolding gated
+gate-words x y t h₀ h₁ h₂ = record { at = λ k. rw (h₀.at k, h₁.at k, h₂.at k) }
 
 -- three words that are the definition's make the gate's sharing
 words_are : (m : ℕ) (x y t : Sharing) {z₀ z₁ z₂ : ℕ}

@@ -4,6 +4,7 @@ ghost use Rattle.ring.specs.Modular.{Cong};
 ghost use Rattle.ring.specs.Rings.{Sized};
 ghost use Rattle.gate.specs.Gates.{gated, mask, word};
 ghost use Rattle.gate.specs.Places.{InRange, PairBelow, pair, parts, sharing, three};
+ghost use Rattle.gate.specs.Words.{BitWord, BitWords, GateWords, Sliced};
 
 use crate::sharing::Sharing;
 use ring::{add_mod, mul_add_mod, reduce_once, reduce_short};
@@ -31,13 +32,10 @@ fn ring_word(e: u64, p: u64, x: u64, xf: u64, y: u64, yf: u64, t: u64, tf: u64) 
     mul_add_mod(e, p, x, sum, xf, y, mask_word(p, t, tf))
 }
 
-// z_i of bits, from the same.
+// z_i of bits, from the same; of words it is that of each of their bits.
 fn bit_word(x: u64, xf: u64, y: u64, yf: u64, t: u64, tf: u64) -> u64
-    requires left { PairBelow 2 (pair x xf) }
-    requires right { PairBelow 2 (pair y yf) }
-    requires items { PairBelow 2 (pair t tf) }
-    ensures is { result ≡ word 2 (pair x xf) (pair y yf) (pair t tf) }
-    ensures below { result < 2 }
+    ensures figures { Sliced x xf y yf t tf result }
+    ensures bits { PairBelow 2 (pair x xf) → PairBelow 2 (pair y yf) → PairBelow 2 (pair t tf) → BitWord x xf y yf t tf result }
 {
     (x & (y ^ yf)) ^ (xf & y) ^ t ^ tf
 }
@@ -58,13 +56,10 @@ pub fn ring_words(e: u64, p: u64, x: Sharing, y: Sharing, t: Sharing) -> Sharing
     }
 }
 
-// z_0, z_1 and z_2 of bits.
+// z_0, z_1 and z_2 of bits; of words they are those of each of their bits.
 pub fn bit_words(x: Sharing, y: Sharing, t: Sharing) -> Sharing
-    requires left { InRange 2 x }
-    requires right { InRange 2 y }
-    requires items { InRange 2 t }
-    ensures is { result ≡ sharing (gated 2 (parts x) (parts y) (parts t)) }
-    ensures below { InRange 2 result }
+    ensures figures { GateWords x y t result }
+    ensures bits { InRange 2 x → InRange 2 y → InRange 2 t → BitWords x y t result }
 {
     Sharing {
         s0: bit_word(x.s0, x.s1, y.s0, y.s1, t.s0, t.s1),

@@ -4,7 +4,7 @@ use mathlib.Core.Path.{◌≡◌}
 use native.Mathlib.Omega.{arith}
 use Rattle.ring.specs.Rings.{width_of}
 use Rattle.circuit.specs.Decompose.{carry_gate}
-use Rattle.circuit.proofs.LoanLaw.{sends_then, supplied_later}
+use Rattle.circuit.proofs.LoanLaw.{sends_count, sends_then, supplied_later}
 use Rattle.circuit.proofs.RunLaw.{length-upto}
 use Rattle.decompose.proofs.StageLaw.{ended_then, left_is}
 use Rattle.decompose.proofs.order.decompose.Goals as goal
@@ -18,7 +18,7 @@ pub returns-clause-left : goal.returns-clause-left
 returns-clause-left c =
     let l = c.args.l in
     let all : l + 1 + (l + l) ≡ 3 * l + 1 = omega arith in
-    rw all at
+    sends_count all
     (sends_then c.carry_stage-carries.ensures c.from_carries.ensures.ended
-    (λ T c₀ d e first second kept. left_is (width_of c.args.r) l c.args.a c.four_times-x.ensures
+    (λ first second kept. left_is (width_of c.args.r) l c.args.a c.four_times-x.ensures
     (ended_then l (length-upto carry_gate (l + 1)) first second kept)))

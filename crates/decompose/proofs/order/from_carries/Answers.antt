@@ -1,5 +1,6 @@
 -- The running gates, then the increment.
 use Prim.Native.Nat.{◌+◌}
+use Rattle.std.proofs.Common.{rules}
 use native.Mathlib.Omega.{arith}
 use Rattle.circuit.specs.Decompose.{running_gate}
 use Rattle.circuit.proofs.LoanLaw.{sends_then, supplied_later}
@@ -14,5 +15,5 @@ pub returns-clause-ended : goal.returns-clause-ended
 returns-clause-ended c =
     let l = c.args.l in
     let running = c.running_stage-running in
-    sends_then running.ensures (c.increment.ensures.ended c.args.x c.args.carries running.result c.totals-total.ensures)
-    (λ T c₀ d e first second kept. ended_then l (length-upto (λ k. running_gate (k + 1)) l) first second kept)
+    sends_then running.ensures (c.increment.ensures.ended c.args.x c.args.carries running.result search rules)
+    (λ first second kept. ended_then l (length-upto (λ k. running_gate (k + 1)) l) first second kept)

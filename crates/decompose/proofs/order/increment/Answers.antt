@@ -3,7 +3,7 @@ use Prim.Native.Nat.{◌+◌, ◌-◌}
 use mathlib.Core.Path.{◌≡◌, refl}
 use native.Mathlib.Omega.{arith}
 use Rattle.circuit.specs.Sharings.{zeros}
-use Rattle.circuit.proofs.LoanLaw.{ran_then, sends_then, supplied_later}
+use Rattle.circuit.proofs.LoanLaw.{ran_then, sends_count, sends_then, supplied_later}
 use Rattle.decompose.proofs.StageLaw.{ended_here, totalled_alone}
 use Rattle.decompose.proofs.order.increment.Goals as goal
 
@@ -17,6 +17,6 @@ pub returns-clause-ended : goal.returns-clause-ended
 returns-clause-ended c =
     let l = c.args.l in
     let all : 1 + (l - 1) ≡ l = omega (arith, c.requires.count) in
-    λ x carries running e. rw all at
+    λ x carries running e. sends_count all
     (sends_then (c.zero_turn-first.ensures.ran x carries running e) (c.raising_stage-raising.ensures x carries running e)
-    (λ T c₀ d d' first second kept. ended_here l (ran_then refl first second kept) c.finish.ensures.is e))
+    (λ first second kept. ended_here l (ran_then refl first second kept) c.finish.ensures.is e))
