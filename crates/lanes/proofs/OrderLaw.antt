@@ -70,19 +70,28 @@ module _ (l : ℕ) (x q r a o : Planes) (small : l < 60)
     upper_is l total.s2 (columns l a k).s2 (λ j h. ap (λ (w : Sharing). w.s2) (bits j h)),
   )
 
+-- the two stages one after the other, with the planes a₀ of the first carry and a of all
+increment_ended : (l : ℕ) (x q r a₀ a o : Planes) {T c d e : Place → List ℕ} → 1 ≤ l → l < 60
+    → EachRan (zero_gate ∷ []) (summed x q r (l + 2)) (raised x q r a₀ (l + 2) 1) T c d
+    → EachRan (upto raising_gate (l - 1)) (raised x q r a₀ (l - 1 + 3) 1) (raised x q r a (l - 1 + 3) (l - 1 + 1)) (drops 1 T) (drops 1 d) (drops 1 e)
+    → ((i : Place) → take 1 (e i) ≡ take 1 (d i))
+    → ((j : ℕ) → j < l → planes_at j o ≡ words_xor (total_planes (j + 2) x q r) (planes_at j a)) → NoPlanes l o
+    → (k : ℕ) → Ended l (zero_gate ∷ upto raising_gate (l - 1)) (summed x q r (l + 2) k) (lanes k T) (lanes k c) (columns 64 o k) (lanes k e)
+increment_ended l x q r a₀ a o some few zero raising kept digits none k =
+    let up : l - 1 + 3 ≡ l + 2 = omega arith in
+    let all : l - 1 + 1 ≡ l = omega arith in
+    let ran = each_then refl zero (rw (up, all) at raising) kept in
+    ended_here l (ran.on k) (column-ends l o k (omega arith) none ∙ finished_is l x q r a o few digits k) refl
+
 pub increments : {l : ℕ} {s o o' : Planes} {v : Sharing} {T c d e : Place → List ℕ} → 1 ≤ l → l < 60 → Cleared l o o'
     → ZeroRan s v T c d → RaisingRan (l - 1) s v o (drops 1 T) (drops 1 d) (drops 1 e) → ((i : Place) → take 1 (e i) ≡ take 1 (d i))
     → Increments l s o' T c e
-increments {l} {s} {o} {o'} some few clear zero raising kept = record {
-  on = λ x q r totals k.
+increments {l} {o' = o'} some few clear zero raising kept = record {
+  on = λ x q r totals.
       let up : l - 1 + 3 ≡ l + 2 = omega arith in
-      let all : l - 1 + 1 ≡ l = omega arith in
       let z = zero.on (l + 2) x q r (omega arith) (omega arith) totals in
       let a = raising.on x q r z.a (rw up totals) z.whole z.first in
-      let ran = each_then refl (rw (← up) at z.ran) a.ran kept in
-      let digits : (j : ℕ) → j < l → planes_at j o' ≡ words_xor (total_planes (j + 2) x q r) (planes_at j a.a)
-      = λ j h. clear.stand j h ∙ a.digits j (omega arith) in
-      ended_here l (rw (up, all) at (ran.on k)) (column-ends l o' k (omega arith) clear.none ∙ finished_is l x q r a.a o' few digits k) refl;
+      increment_ended l x q r z.a a.a o' some few z.ran a.ran kept (λ j h. clear.stand j h ∙ a.digits j (omega arith)) clear.none;
 }
 
 -- ---- the whole order, for each figure
@@ -90,16 +99,16 @@ increments {l} {s} {o} {o'} some few clear zero raising kept = record {
 pub worked : {l : ℕ} {x s o : Planes} {T c d e : Place → List ℕ} → SumsRan l x s T c d
     → Increments l s o (drops (l + 1 + l) T) (drops (l + 1 + l) d) (drops (l + 1 + l) e)
     → ((i : Place) → take (l + 1 + l) (e i) ≡ take (l + 1 + l) (d i)) → Worked l x o T c e
-worked {l} {x} {o = o} {T} {c} {d} {e} sums increments kept = record {
+worked {l} {x} {o = o} {T} {c} {d} {e} first second kept = record {
   on = λ k w a z from to.
       let n : ℕ = l + 1 + l in
       let counted : length (upto carry_gate (l + 1) ++ upto (λ i. running_gate (i + 1)) l) ≡ n
       = length-append (upto carry_gate (l + 1)) (upto (λ i. running_gate (i + 1)) l)
       ∙ ap₂ (λ (m n : ℕ). m + n) (length-upto carry_gate (l + 1)) (length-upto (λ i. running_gate (i + 1)) l) in
-      let ended = rw (lanes-drop k n T, lanes-drop k n d, lanes-drop k n e) at (increments.on sums.q sums.r sums.totals k) in
+      let ended = rw (lanes-drop k n T, lanes-drop k n d, lanes-drop k n e) at (second.on first.q first.r first.totals k) in
       left_is w l a from
       (rw (append_assoc (upto carry_gate (l + 1)) (upto (λ i. running_gate (i + 1)) l) (zero_gate ∷ upto raising_gate (l - 1)), to)
-      at (ended_then l counted (sums.ran.on k) ended (lanes_kept k n e d kept)));
+      at (ended_then l counted (first.ran.on k) ended (lanes_kept k n e d kept)));
 }
 
 pub laned : (e l : ℕ) (a₀ a₁ a₂ z₀ z₁ z₂ : List ℕ) {x o : Planes} {m c d : Place → List ℕ}

@@ -1,0 +1,45 @@
+-- Invariant: j gates ran for each figure, and j planes of the result are there.
+use Prim.Native.Nat.{◌+◌}
+use mathlib.Core.Path.{◌≡◌, ap, ◌∙◌}
+use native.Mathlib.Omega.{arith}
+use Rattle.circuit.proofs.LoanLaw.{room_later}
+use Rattle.planes.specs.Planes.{with_planes}
+use Rattle.planes.proofs.PlaceLaw.{none_kept}
+use Rattle.lanes.proofs.GateLaw.{both_sent, nothing_sent, one_sent, sends_of}
+use Rattle.lanes.proofs.StageLaw.{rising_all, rising_more, rising_none}
+use Rattle.lanes.proofs.stages.raising_lanes.Goals as goal
+
+pub loop-j-init : goal.loop-j-init
+loop-j-init c =
+    let a = c.args in
+    (nothing_sent a.lent.now (rising_none a.n a.s.now a.first a.o.now), (λ e far none. none))
+
+pub items-t-requires : goal.items-t-requires
+items-t-requires c = room_later c.loop-j.j 1 (omega (arith, c.loop-j-test.true)) c.requires.room c.loop-j.invariant.0
+
+pub send-requires : goal.send-requires
+send-requires c = room_later c.loop-j.j 1 (omega (arith, c.loop-j-test.true)) c.requires.room c.loop-j.invariant.0
+
+pub loop-j-preserved : goal.loop-j-preserved
+loop-j-preserved c =
+    let head = c.loop-j in
+    let a = c.args in
+    let now = c.store in
+    let room = room_later head.j 1 (omega (arith, c.loop-j-test.true)) c.requires.room head.invariant.0 in (
+      both_sent head.invariant.0 (one_sent c.items-t.ensures room c.send.ensures)
+          (rising_more head.j a.n a.first a.s.now head.o now.new.self head.carry c.at-b.result c.items-t.result c.gate_words-z.result
+          c.loop-j-test.true c.requires.count now.ensures.whole c.at-b.ensures.is c.gate_words-z.ensures
+          (now.ensures.is ∙ ap (with_planes head.o head.j) c.words_xor.ensures)),
+      (λ e far none. none_kept head.o c.words_xor.result (omega (arith, c.loop-j-test.true, far)) now.ensures.is (head.invariant.1 e far none)),
+    )
+
+pub returns : goal.returns
+returns c =
+    let head = c.loop-j in
+    let last = c.store-2 in
+    let same : head.j ≡ c.args.n = omega (arith, c.loop-j-test.false) in record {
+      is = sends_of (rw same at head.invariant.0)
+          (rising_all head.o last.new.self head.carry c.at-top.result c.requires.count last.ensures.whole c.at-top.ensures.is
+          (last.ensures.is ∙ ap (with_planes head.o c.args.n) c.words_xor-2.ensures));
+      none = (λ e far none. none_kept head.o c.words_xor-2.result far last.ensures.is (head.invariant.1 e far none));
+    }
