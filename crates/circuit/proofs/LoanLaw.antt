@@ -215,3 +215,6 @@ pub next_in : {m n : ℕ} {t : Sharing} {v : Lent} → 0 < n → ItemsIn m 0 n v
 next_in {m} {v = v} some items is =
     let at : v.at + 0 + 0 ≡ v.at = omega arith in
     rw is (rw at at (items.below 0 some))
+
+pub next_below : {m n : ℕ} {v : Lent} → 0 < n → Supplied m n v → InRange m (items_next v)
+next_below some supplied = next_in some supplied.items refl

@@ -13,6 +13,8 @@ use Rattle.circuit.specs.Bits.{gather, xor}
 use Rattle.circuit.specs.Circuits.{after, words}
 use Rattle.circuit.specs.Decompose.{Digits, carry_gate, digit, raising_gate, running_gate, sum_bit, total_bit, zero_gate}
 use Rattle.circuit.specs.Lent.{Turned}
+use Rattle.circuit.specs.Loans.{Sends, words_sent}
+use Rattle.circuit.specs.declared.lent.Lent.{Lent}
 use Rattle.circuit.specs.Sharings.{zeros}
 use Rattle.circuit.proofs.BitsLaw.{bit_lt, bit_upper, bit_of-xor, gather-bits, gather_same}
 use Rattle.decompose.specs.Turns.{majority_words}
@@ -58,6 +60,18 @@ xor_bits is ha hb = (
   is ∙ rw (xor_bit ha.zero hb.zero, xor_bit ha.one hb.one, xor_bit ha.two hb.two) refl,
   rw is (record { zero = xor_lt 1 _ _ ha.zero hb.zero; one = xor_lt 1 _ _ ha.one hb.one; two = xor_lt 1 _ _ ha.two hb.two }),
 )
+
+-- the majority's words and its bits
+pub majority_is : (x y c t : Sharing) {left right z b : Sharing} {v w : Lent}
+    → left ≡ bits_xor x c
+    → right ≡ bits_xor y c
+    → z ≡ sharing (gated 2 (parts left) (parts right) (parts t))
+    → Sends 1 (words_sent z) v w
+    → b ≡ bits_xor c z
+    → (b ≡ bits_xor c (majority_words x y c t)) × Sends 1 (words_sent (majority_words x y c t)) v w
+majority_is x y c t {z = z} hl hr hz sent hb =
+    let said : z ≡ majority_words x y c t = rw (hz, hl, hr) in
+    (hb ∙ ap (bits_xor c) said, rw said at sent)
 
 -- (i) the carry gate, on bits that are known at one place each
 abbrev pub at_zero : Sharing → Sharing

@@ -2,9 +2,9 @@
 -- Used by the code's contracts alone: no theorem's statement speaks of it.
 use Rattle.std.specs.Prelude.{ℕ, ◌+◌, ◌*◌, ◌/◌, ◌%◌, ◌^◌}
 use Rattle.std.specs.Int.Bits.{bit_xor}
-use Rattle.ring.specs.Rings.{bit_of}
 use Rattle.gate.specs.Places.{Place, three}
 use Rattle.gate.specs.declared.sharing.Sharing.{Sharing}
+pub use Rattle.gate.specs.Words.{bits_at}
 use Rattle.circuit.specs.Bits.{xor}
 use Rattle.circuit.specs.Decompose.{Digits}
 
@@ -15,10 +15,6 @@ digits_of x carries running raising =
     (record { x = x.s0; carries = carries.s0; running = running.s0; raising = raising.s0 })
     (record { x = x.s1; carries = carries.s1; running = running.s1; raising = raising.s1 })
     (record { x = x.s2; carries = carries.s2; running = running.s2; raising = raising.s2 })
-
--- bit j of each word of order 5
-abbrev pub bits_at : Sharing → ℕ → Sharing
-bits_at w j = record { s0 = bit_of w.s0 j; s1 = bit_of w.s1 j; s2 = bit_of w.s2 j }
 
 -- XOR of two shared bits of order 5
 abbrev pub bits_xor : Sharing → Sharing → Sharing
