@@ -17,7 +17,7 @@ use Rattle.circuit.specs.Lent.{Long, Turned}
 use Rattle.circuit.specs.Loans.{Room, Sends, channels, from, items_next, tapes, words_sent}
 use Rattle.circuit.specs.Sharings.{items_at}
 use Rattle.circuit.specs.declared.lent.Lent.{Lent}
-use Rattle.circuit.proofs.LoanLaw.{ran_then, sends_then}
+use Rattle.circuit.proofs.LoanLaw.{ran_then}
 use Rattle.circuit.proofs.RunLaw.{drops, length-upto}
 use Rattle.circuit.proofs.TurnLaw.{no_gates, turn-ran}
 use Rattle.decompose.specs.Words.{bits_at}
@@ -73,17 +73,11 @@ nothing_sent v holds =
       same = record { m0 = refl; m1 = refl; m2 = refl; c0 = refl; c1 = refl; c2 = refl; long = λ i. refl; behind = λ i. refl };
     }
 
-pub both_sent : {n k : ℕ} {P Q R : (T c d : Place → List ℕ) → Type 0} {u v w : Lent} → Sends n P u v → Sends k Q v w
-    → ({T c d e : Place → List ℕ} → P T c d → Q (drops n T) (drops n d) (drops n e) → ((i : Place) → take n (e i) ≡ take n (d i)) → R T c e)
-    → Sends (n + k) R u w
-both_sent a b on = sends_then a b (λ T c d e. on {T} {c} {d} {e})
-
 -- what follows from what was sent
-pub sends_of : {n : ℕ} {P Q : (T c d : Place → List ℕ) → Type 0} {v w : Lent} → Sends n P v w → ({T c d : Place → List ℕ} → P T c d → Q T c d) → Sends n Q v w
+pub sends_of : {n : ℕ} {P Q : (T c d : Place → List ℕ) → Type 0} {v w : Lent} → Sends n P v w
+    → (P (from v.at (tapes v)) (from v.at (channels v)) (from v.at (channels w)) → Q (from v.at (tapes v)) (from v.at (channels v)) (from v.at (channels w)))
+    → Sends n Q v w
 sends_of a on = record { ahead = on a.ahead; at = a.at; same = a.same }
-
-pub sends_count : {n k : ℕ} {P : (T c d : Place → List ℕ) → Type 0} {v w : Lent} → n ≡ k → Sends n P v w → Sends k P v w
-sends_count e a = rw e at a
 
 -- ---- one gate
 

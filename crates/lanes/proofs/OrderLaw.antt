@@ -9,21 +9,20 @@ use Rattle.ring.specs.Rings.{bit_of, modulus}
 use Rattle.gate.specs.Places.{Place}
 use Rattle.gate.specs.declared.sharing.Sharing.{Sharing}
 use Rattle.circuit.specs.Bits.{gather, xor}
-use Rattle.circuit.specs.Circuits.{Gate, upto}
-use Rattle.circuit.specs.Decompose.{Digits, carry_gate, raising_gate, running_gate, zero_gate}
-use Rattle.circuit.specs.Lent.{Ran}
+use Rattle.circuit.specs.Circuits.{upto}
+use Rattle.circuit.specs.Decompose.{carry_gate, raising_gate, running_gate, zero_gate}
 use Rattle.circuit.specs.Sharings.{four_times, items_at}
 use Rattle.circuit.proofs.BitsLaw.{bit_upper, bit_of-xor, gather-bits, gather_same}
 use Rattle.circuit.proofs.RunLaw.{drops, length-upto}
 use Rattle.decompose.specs.Turns.{Ended}
 use Rattle.decompose.specs.Words.{bits_at, bits_xor, finished, totalled, upper}
 use Rattle.decompose.proofs.StageLaw.{ended_here, ended_then, left_is}
-use Rattle.planes.specs.Planes.{Cleared, Loaded, NoPlanes, Whole, columns, planes_at, words_xor}
+use Rattle.planes.specs.Planes.{Cleared, Loaded, NoPlanes, columns, planes_at, words_xor}
 use Rattle.planes.specs.declared.places.Planes.{Planes}
 use Rattle.planes.proofs.PlaceLaw.{column-bits, column-ends}
 use Rattle.planes.proofs.WordLaw.{bits-xor}
 use Rattle.lanes.specs.Lanes.{lanes}
-use Rattle.lanes.specs.Stages.{EachRan, Increments, Laned, RaisingRan, Running, SumsRan, Totals, Worked, ZeroRan, carried, fresh, raised, summed, total_planes}
+use Rattle.lanes.specs.Stages.{EachRan, Increments, Laned, RaisingRan, Running, SumsRan, Worked, ZeroRan, carried, fresh, raised, summed, total_planes}
 use Rattle.lanes.proofs.GateLaw.{each_then, lanes-drop, lanes_kept}
 use Rattle.lanes.proofs.StageLaw.{total-bits}
 
@@ -71,13 +70,13 @@ module _ (l : ℕ) (x q r a o : Planes) (small : l < 60)
   )
 
 -- the two stages one after the other, with the planes a₀ of the first carry and a of all
-increment_ended : (l : ℕ) (x q r a₀ a o : Planes) {T c d e : Place → List ℕ} → 1 ≤ l → l < 60
+increment_ended : (l : ℕ) (x q r a₀ a o : Planes) (T c d e : Place → List ℕ) → 1 ≤ l → l < 60
     → EachRan (zero_gate ∷ []) (summed x q r (l + 2)) (raised x q r a₀ (l + 2) 1) T c d
     → EachRan (upto raising_gate (l - 1)) (raised x q r a₀ (l - 1 + 3) 1) (raised x q r a (l - 1 + 3) (l - 1 + 1)) (drops 1 T) (drops 1 d) (drops 1 e)
     → ((i : Place) → take 1 (e i) ≡ take 1 (d i))
     → ((j : ℕ) → j < l → planes_at j o ≡ words_xor (total_planes (j + 2) x q r) (planes_at j a)) → NoPlanes l o
     → (k : ℕ) → Ended l (zero_gate ∷ upto raising_gate (l - 1)) (summed x q r (l + 2) k) (lanes k T) (lanes k c) (columns 64 o k) (lanes k e)
-increment_ended l x q r a₀ a o some few zero raising kept digits none k =
+increment_ended l x q r a₀ a o T c d e some few zero raising kept digits none k =
     let up : l - 1 + 3 ≡ l + 2 = omega arith in
     let all : l - 1 + 1 ≡ l = omega arith in
     let ran = each_then refl zero (rw (up, all) at raising) kept in
@@ -86,12 +85,12 @@ increment_ended l x q r a₀ a o some few zero raising kept digits none k =
 pub increments : {l : ℕ} {s o o' : Planes} {v : Sharing} {T c d e : Place → List ℕ} → 1 ≤ l → l < 60 → Cleared l o o'
     → ZeroRan s v T c d → RaisingRan (l - 1) s v o (drops 1 T) (drops 1 d) (drops 1 e) → ((i : Place) → take 1 (e i) ≡ take 1 (d i))
     → Increments l s o' T c e
-increments {l} {o' = o'} some few clear zero raising kept = record {
+increments {l} {o' = o'} {T = T} {c} {d} {e} some few clear zero raising kept = record {
   on = λ x q r totals.
       let up : l - 1 + 3 ≡ l + 2 = omega arith in
       let z = zero.on (l + 2) x q r (omega arith) (omega arith) totals in
       let a = raising.on x q r z.a (rw up totals) z.whole z.first in
-      increment_ended l x q r z.a a.a o' some few z.ran a.ran kept (λ j h. clear.stand j h ∙ a.digits j (omega arith)) clear.none;
+      increment_ended l x q r z.a a.a o' T c d e some few z.ran a.ran kept (λ j h. clear.stand j h ∙ a.digits j (omega arith)) clear.none;
 }
 
 -- ---- the whole order, for each figure
@@ -105,7 +104,7 @@ worked {l} {x} {o = o} {T} {c} {d} {e} first second kept = record {
       let counted : length (upto carry_gate (l + 1) ++ upto (λ i. running_gate (i + 1)) l) ≡ n
       = length-append (upto carry_gate (l + 1)) (upto (λ i. running_gate (i + 1)) l)
       ∙ ap₂ (λ (m n : ℕ). m + n) (length-upto carry_gate (l + 1)) (length-upto (λ i. running_gate (i + 1)) l) in
-      let ended = rw (lanes-drop k n T, lanes-drop k n d, lanes-drop k n e) at (second.on first.q first.r first.totals k) in
+      let ended = rw (lanes-drop k n T, lanes-drop k n d, lanes-drop k n e) at (second.on x first.q first.r first.totals k) in
       left_is w l a from
       (rw (append_assoc (upto carry_gate (l + 1)) (upto (λ i. running_gate (i + 1)) l) (zero_gate ∷ upto raising_gate (l - 1)), to)
       at (ended_then l counted (first.ran.on k) ended (lanes_kept k n e d kept)));

@@ -20,7 +20,7 @@ use Rattle.planes.specs.Planes.{GateWords, MajorityWords, Whole, columns, planes
 use Rattle.planes.specs.declared.places.Planes.{Planes}
 use Rattle.planes.proofs.PlaceLaw.{column-bits, column_more, other_planes, stored_planes, whole_stored}
 use Rattle.planes.proofs.WordLaw.{bits-xor}
-use Rattle.lanes.specs.Stages.{EachRan, Raising, RaisingRan, Running, Totals, ZeroRan, Zeroed, carried, raised, summed, total_planes}
+use Rattle.lanes.specs.Stages.{EachRan, RaisingRan, Running, Totals, ZeroRan, carried, raised, summed, total_planes}
 use Rattle.lanes.proofs.GateLaw.{OneSent, Takes, each_more, each_none}
 
 -- planes that are 0 are no bits

@@ -1,8 +1,7 @@
 use Prim.Native.Nat.{◌+◌, ◌-◌}
 use mathlib.Core.Path.{◌≡◌}
 use native.Mathlib.Omega.{arith}
-use Rattle.circuit.proofs.LoanLaw.{room_later}
-use Rattle.lanes.proofs.GateLaw.{both_sent, sends_count}
+use Rattle.circuit.proofs.LoanLaw.{room_later, sends_count, sends_then}
 use Rattle.lanes.proofs.OrderLaw.{increments}
 use Rattle.lanes.proofs.order.increment.Goals as goal
 
@@ -13,4 +12,4 @@ pub returns-clause-is : goal.returns-clause-is
 returns-clause-is c =
     let all : 1 + (c.args.l - 1) ≡ c.args.l = omega (arith, c.requires.count.0) in
     sends_count all
-    (both_sent c.zero_lanes-first.ensures c.raising_lanes.ensures.is (increments c.requires.count.0 c.requires.count.1 c.clear.ensures))
+    (sends_then c.zero_lanes-first.ensures c.raising_lanes.ensures.is (increments c.requires.count.0 c.requires.count.1 c.clear.ensures))

@@ -1,8 +1,7 @@
 use Prim.Native.Nat.{◌+◌, ◌*◌}
 use mathlib.Core.Path.{◌≡◌}
 use native.Mathlib.Omega.{arith}
-use Rattle.circuit.proofs.LoanLaw.{room_later}
-use Rattle.lanes.proofs.GateLaw.{both_sent, sends_count}
+use Rattle.circuit.proofs.LoanLaw.{room_later, sends_count, sends_then}
 use Rattle.lanes.proofs.OrderLaw.{worked}
 use Rattle.lanes.proofs.order.work.Goals as goal
 
@@ -13,4 +12,4 @@ pub returns-clause-is : goal.returns-clause-is
 returns-clause-is c =
     let l = c.args.l in
     let all : l + 1 + l + l ≡ 3 * l + 1 = omega arith in
-    sends_count all (both_sent c.sums.ensures c.increment.ensures.is worked)
+    sends_count all (sends_then c.sums.ensures c.increment.ensures.is worked)

@@ -1,15 +1,14 @@
 -- Invariant: j gates ran for each figure, and j + 1 planes of carries are known.
-use Prim.Native.Nat.{ℕ, ◌+◌}
 use mathlib.Core.Path.{◌≡◌, ap, sym, ◌∙◌}
 use native.Mathlib.Omega.{arith}
 use Rattle.gate.specs.declared.sharing.Sharing.{Sharing}
 use Rattle.circuit.specs.Decompose.{carry_gate}
 use Rattle.circuit.specs.Sharings.{zeros}
-use Rattle.circuit.proofs.LoanLaw.{room_later}
+use Rattle.circuit.proofs.LoanLaw.{room_later, sends_then}
 use Rattle.decompose.specs.Words.{digits_of}
 use Rattle.planes.specs.Planes.{columns, with_planes}
 use Rattle.planes.specs.declared.places.Planes.{Planes}
-use Rattle.lanes.proofs.GateLaw.{both_sent, each_more, each_none, nothing_sent, one_sent}
+use Rattle.lanes.proofs.GateLaw.{each_more, each_none, nothing_sent, one_sent}
 use Rattle.lanes.proofs.StageLaw.{no_planes, takes_carry}
 use Rattle.lanes.proofs.stages.carry_lanes.Goals as goal
 
@@ -36,7 +35,7 @@ loop-j-preserved c =
     (omega (arith, c.loop-j-test.true, c.requires.count)) now.ensures.whole c.at-b.ensures.is c.majority_words-z.ensures
     c.words_xor.ensures now.ensures.is in
     let room = room_later head.j 1 (omega (arith, c.loop-j-test.true)) c.requires.room head.invariant in
-    both_sent head.invariant (one_sent c.items-t.ensures room c.send.ensures)
+    sends_then head.invariant (one_sent c.items-t.ensures room c.send.ensures)
     (λ ran one kept. each_more carry_gate head.j ran (one.on takes) kept)
 
 pub returns : goal.returns

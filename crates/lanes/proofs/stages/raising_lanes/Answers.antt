@@ -1,11 +1,10 @@
 -- Invariant: j gates ran for each figure, and j planes of the result are there.
-use Prim.Native.Nat.{◌+◌}
 use mathlib.Core.Path.{◌≡◌, ap, ◌∙◌}
 use native.Mathlib.Omega.{arith}
-use Rattle.circuit.proofs.LoanLaw.{room_later}
+use Rattle.circuit.proofs.LoanLaw.{room_later, sends_then}
 use Rattle.planes.specs.Planes.{with_planes}
 use Rattle.planes.proofs.PlaceLaw.{none_kept}
-use Rattle.lanes.proofs.GateLaw.{both_sent, nothing_sent, one_sent, sends_of}
+use Rattle.lanes.proofs.GateLaw.{nothing_sent, one_sent, sends_of}
 use Rattle.lanes.proofs.StageLaw.{rising_all, rising_more, rising_none}
 use Rattle.lanes.proofs.stages.raising_lanes.Goals as goal
 
@@ -26,7 +25,7 @@ loop-j-preserved c =
     let a = c.args in
     let now = c.store in
     let room = room_later head.j 1 (omega (arith, c.loop-j-test.true)) c.requires.room head.invariant.0 in (
-      both_sent head.invariant.0 (one_sent c.items-t.ensures room c.send.ensures)
+      sends_then head.invariant.0 (one_sent c.items-t.ensures room c.send.ensures)
           (rising_more head.j a.n a.first a.s.now head.o now.new.self head.carry c.at-b.result c.items-t.result c.gate_words-z.result
           c.loop-j-test.true c.requires.count now.ensures.whole c.at-b.ensures.is c.gate_words-z.ensures
           (now.ensures.is ∙ ap (with_planes head.o head.j) c.words_xor.ensures)),

@@ -1,9 +1,8 @@
 -- Invariant: i gates ran for each figure, planes 0 to i are the total's, and carries stand from there on.
-use Prim.Native.Nat.{◌+◌}
 use mathlib.Core.Path.{◌≡◌}
 use native.Mathlib.Omega.{arith}
-use Rattle.circuit.proofs.LoanLaw.{room_later}
-use Rattle.lanes.proofs.GateLaw.{both_sent, nothing_sent, one_sent, sends_of}
+use Rattle.circuit.proofs.LoanLaw.{room_later, sends_then}
+use Rattle.lanes.proofs.GateLaw.{nothing_sent, one_sent, sends_of}
 use Rattle.lanes.proofs.StageLaw.{summing_all, summing_more, summing_none}
 use Rattle.lanes.proofs.stages.running_lanes.Goals as goal
 
@@ -23,7 +22,7 @@ loop-i-preserved c =
     let a = c.args in
     let now = c.total_in-in-loop-i in
     let room = room_later head.i 1 (omega (arith, c.loop-i-test.true)) c.requires.room head.invariant in
-    both_sent head.invariant (one_sent c.items-t.ensures room c.send.ensures)
+    sends_then head.invariant (one_sent c.items-t.ensures room c.send.ensures)
     (summing_more head.i a.n a.x.now a.s.now head.s now.new.s head.last c.words_xor-last.result c.at-b.result c.at-u.result
     c.items-t.result c.majority_words-z.result c.loop-i-test.true c.requires.count now.ensures.whole c.at-b.ensures.is c.at-u.ensures.is
     c.majority_words-z.ensures now.ensures.is c.words_xor-last.ensures)

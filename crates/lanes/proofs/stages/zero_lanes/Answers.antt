@@ -1,4 +1,3 @@
-use mathlib.Core.Path.{◌≡◌}
 use Rattle.lanes.proofs.GateLaw.{one_sent, sends_of}
 use Rattle.lanes.proofs.StageLaw.{zeroed}
 use Rattle.lanes.proofs.stages.zero_lanes.Goals as goal
