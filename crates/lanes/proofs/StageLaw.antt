@@ -7,6 +7,7 @@ use borrow.Author.Count.{below_more, below_none}
 use lib.ListN.{take}
 use Rattle.gate.specs.Places.{Place}
 use Rattle.gate.specs.declared.sharing.Sharing.{Sharing}
+use Rattle.gate.specs.Words.{GateWords}
 use Rattle.circuit.specs.Bits.{gather}
 use Rattle.circuit.specs.Circuits.{upto}
 use Rattle.circuit.specs.Decompose.{Digits, carry_gate, raising_gate, running_gate, zero_gate}
@@ -16,7 +17,7 @@ use Rattle.circuit.proofs.RunLaw.{drops}
 use Rattle.decompose.specs.Turns.{majority_words}
 use Rattle.decompose.specs.Words.{bits_at, bits_xor, digits_of, stored, totalled}
 use Rattle.decompose.proofs.GateLaw.{at_one, at_two, at_zero, carry_turned, raising_turned, running-turned, zero_turned}
-use Rattle.planes.specs.Planes.{GateWords, MajorityWords, Whole, columns, planes_at, with_planes, words_xor}
+use Rattle.planes.specs.Planes.{MajorityWords, Whole, columns, planes_at, with_planes, words_xor}
 use Rattle.planes.specs.declared.places.Planes.{Planes}
 use Rattle.planes.proofs.PlaceLaw.{column-bits, column_more, other_planes, stored_planes, whole_stored}
 use Rattle.planes.proofs.WordLaw.{bits-xor}

@@ -8,8 +8,8 @@ ghost use Rattle.lanes.specs.Stages.{EachRan, RaisingRan, Running, ZeroRan, carr
 
 use crate::words::total_in;
 use circuit::{Lent, zeros};
-use gate::Sharing;
-use planes::{Planes, gate_words, majority_words, words_xor};
+use gate::{Sharing, bit_words};
+use planes::{Planes, majority_words};
 
 // (i) The carries: n gates.
 pub fn carry_lanes(x: &Planes, n: usize, lent: &mut Lent<'_>, q: &mut Planes)
@@ -38,7 +38,7 @@ pub fn carry_lanes(x: &Planes, n: usize, lent: &mut Lent<'_>, q: &mut Planes)
         };
         let z = majority_words(first, second, third, t);
         lent.send(z);
-        q.store(j + 1, words_xor(third, z));
+        q.store(j + 1, third ^ z);
     }
 }
 
@@ -57,7 +57,7 @@ pub fn running_lanes(x: &Planes, n: usize, lent: &mut Lent<'_>, s: &mut Planes)
         let z = majority_words(b, u, last, t);
         lent.send(z);
         total_in(x, s, i + 1, last);
-        last = words_xor(last, z);
+        last = last ^ z;
     }
     total_in(x, s, n + 1, last);
 }
@@ -70,9 +70,9 @@ pub fn zero_lanes(s: &Planes, lent: &mut Lent<'_>) -> Sharing
     let left = s.at(0);
     let right = s.at(1);
     let t = lent.items();
-    let z = gate_words(left, right, t);
+    let z = bit_words(left, right, t);
     lent.send(z);
-    words_xor(words_xor(left, right), z)
+    left ^ right ^ z
 }
 
 // (iv) The carries of the increment from the first, which is given: n gates, and n + 1 planes of the result. Planes above
@@ -87,11 +87,11 @@ pub fn raising_lanes(s: &Planes, first: Sharing, n: usize, lent: &mut Lent<'_>, 
     for j in 0..n {
         let b = s.at(j + 2);
         let t = lent.items();
-        let z = gate_words(b, carry, t);
+        let z = bit_words(b, carry, t);
         lent.send(z);
-        o.store(j, words_xor(b, carry));
+        o.store(j, b ^ carry);
         carry = z;
     }
     let top = s.at(n + 2);
-    o.store(n, words_xor(top, carry));
+    o.store(n, top ^ carry);
 }

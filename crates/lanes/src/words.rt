@@ -3,7 +3,7 @@ ghost use Rattle.std.specs.Prelude.{◌≡◌, ◌<◌};
 ghost use Rattle.planes.specs.Planes.{Whole, planes_at, with_planes, words_xor};
 
 use gate::Sharing;
-use planes::{Planes, words_xor};
+use planes::Planes;
 
 // Plane j of the total, in place of the carries: x, carries and the last running carry.
 pub fn total_in(x: &Planes, s: &mut Planes, j: usize, last: Sharing)
@@ -13,5 +13,5 @@ pub fn total_in(x: &Planes, s: &mut Planes, j: usize, last: Sharing)
 {
     let b = x.at(j);
     let u = s.at(j);
-    s.store(j, words_xor(words_xor(b, u), last));
+    s.store(j, b ^ u ^ last);
 }

@@ -2,8 +2,6 @@
 use Rattle.std.specs.Prelude.{ℕ, ◌+◌, ◌*◌, ◌/◌, ◌%◌, ◌<◌, ◌≤◌, ◌^◌, List, ◌≡◌, get_or, length, set}
 use Rattle.std.specs.Int.Bits.{bit_xor}
 use Rattle.ring.specs.Rings.{bit_of}
-use Rattle.gate.specs.Gates.{gated, word}
-use Rattle.gate.specs.Places.{Pair, pair, parts, sharing}
 use Rattle.gate.specs.declared.sharing.Sharing.{Sharing}
 use Rattle.circuit.specs.Bits.{gather}
 use Rattle.circuit.specs.Sharings.{zeros}
@@ -79,17 +77,6 @@ pub record Whole (q : Planes) : Type 0 where
 abbrev pub words_xor : Sharing → Sharing → Sharing
 words_xor a b = record { s0 = bit_xor a.s0 b.s0; s1 = bit_xor a.s1 b.s1; s2 = bit_xor a.s2 b.s2 }
 
--- what party i holds of figure k
-abbrev pub pair_at : ℕ → ℕ → ℕ → Pair
-pair_at own far k = pair (bit_of own k) (bit_of far k)
-
--- for each figure, r is the word that one party sends at a gate
-pub record Sliced (x xf y yf t tf r : ℕ) : Type 0 where
-  pub at : (k : ℕ) → bit_of r k ≡ word 2 (pair_at x xf k) (pair_at y yf k) (pair_at t tf k)
-
--- for each figure, z is what a gate sends, and what the majority of x, y and c does
-pub record GateWords (x y t z : Sharing) : Type 0 where
-  pub at : (k : ℕ) → bits_at z k ≡ sharing (gated 2 (parts (bits_at x k)) (parts (bits_at y k)) (parts (bits_at t k)))
-
+-- for each figure, z is what the majority of x, y and c sends
 pub record MajorityWords (x y c t z : Sharing) : Type 0 where
   pub at : (k : ℕ) → bits_at z k ≡ majority_words (bits_at x k) (bits_at y k) (bits_at c k) (bits_at t k)

@@ -31,9 +31,9 @@ pub loop-j-preserved : goal.loop-j-preserved
 loop-j-preserved c =
     let head = c.loop-j in
     let now = c.store-in-loop-j in
-    let takes = takes_carry head.j c.args.x.now head.q now.new.self c.at-b.result c.items-t.result c.majority_words-z.result c.words_xor.result
+    let takes = takes_carry head.j c.args.x.now head.q now.new.self c.at-b.result c.items-t.result c.majority_words-z.result c.bitxor.result
     (omega (arith, c.loop-j-test.true, c.requires.count)) now.ensures.whole c.at-b.ensures.is c.majority_words-z.ensures
-    c.words_xor.ensures now.ensures.is in
+    c.bitxor.ensures now.ensures.is in
     let room = room_later head.j 1 (omega (arith, c.loop-j-test.true)) c.requires.room head.invariant in
     sends_then head.invariant (one_sent c.items-t.ensures room c.send.ensures)
     (λ ran one kept. each_more carry_gate head.j ran (one.on takes) kept)

@@ -26,10 +26,10 @@ loop-j-preserved c =
     let now = c.store in
     let room = room_later head.j 1 (omega (arith, c.loop-j-test.true)) c.requires.room head.invariant.0 in (
       sends_then head.invariant.0 (one_sent c.items-t.ensures room c.send.ensures)
-          (rising_more head.j a.n a.first a.s.now head.o now.new.self head.carry c.at-b.result c.items-t.result c.gate_words-z.result
-          c.loop-j-test.true c.requires.count now.ensures.whole c.at-b.ensures.is c.gate_words-z.ensures
-          (now.ensures.is ∙ ap (with_planes head.o head.j) c.words_xor.ensures)),
-      (λ e far none. none_kept head.o c.words_xor.result (omega (arith, c.loop-j-test.true, far)) now.ensures.is (head.invariant.1 e far none)),
+          (rising_more head.j a.n a.first a.s.now head.o now.new.self head.carry c.at-b.result c.items-t.result c.bit_words-z.result
+          c.loop-j-test.true c.requires.count now.ensures.whole c.at-b.ensures.is c.bit_words-z.ensures.figures
+          (now.ensures.is ∙ ap (with_planes head.o head.j) c.bitxor.ensures)),
+      (λ e far none. none_kept head.o c.bitxor.result (omega (arith, c.loop-j-test.true, far)) now.ensures.is (head.invariant.1 e far none)),
     )
 
 pub returns : goal.returns
@@ -39,6 +39,6 @@ returns c =
     let same : head.j ≡ c.args.n = omega (arith, c.loop-j-test.false) in record {
       is = sends_of (rw same at head.invariant.0)
           (rising_all head.o last.new.self head.carry c.at-top.result c.requires.count last.ensures.whole c.at-top.ensures.is
-          (last.ensures.is ∙ ap (with_planes head.o c.args.n) c.words_xor-2.ensures));
-      none = (λ e far none. none_kept head.o c.words_xor-2.result far last.ensures.is (head.invariant.1 e far none));
+          (last.ensures.is ∙ ap (with_planes head.o c.args.n) c.bitxor-2.ensures));
+      none = (λ e far none. none_kept head.o c.bitxor-2.result far last.ensures.is (head.invariant.1 e far none));
     }

@@ -23,9 +23,9 @@ loop-i-preserved c =
     let now = c.total_in-in-loop-i in
     let room = room_later head.i 1 (omega (arith, c.loop-i-test.true)) c.requires.room head.invariant in
     sends_then head.invariant (one_sent c.items-t.ensures room c.send.ensures)
-    (summing_more head.i a.n a.x.now a.s.now head.s now.new.s head.last c.words_xor-last.result c.at-b.result c.at-u.result
+    (summing_more head.i a.n a.x.now a.s.now head.s now.new.s head.last c.bitxor-last.result c.at-b.result c.at-u.result
     c.items-t.result c.majority_words-z.result c.loop-i-test.true c.requires.count now.ensures.whole c.at-b.ensures.is c.at-u.ensures.is
-    c.majority_words-z.ensures now.ensures.is c.words_xor-last.ensures)
+    c.majority_words-z.ensures now.ensures.is c.bitxor-last.ensures)
 
 pub returns : goal.returns
 returns c =

@@ -7,6 +7,6 @@ returns c =
     record {
       is = c.store.ensures.is
           ∙ ap (with_planes c.args.s.now c.args.j)
-          (c.words_xor-2.ensures ∙ ap (λ w. words_xor w c.args.last) (c.words_xor.ensures ∙ ap₂ words_xor c.at-b.ensures.is c.at-u.ensures.is));
+          (c.bitxor-2.ensures ∙ ap (λ w. words_xor w c.args.last) (c.bitxor.ensures ∙ ap₂ words_xor c.at-b.ensures.is c.at-u.ensures.is));
       whole = c.store.ensures.whole;
     }
