@@ -8,47 +8,43 @@ use crate::squares::{transpose, transpose_halves};
 use ring::Ring;
 
 // The planes of x = 4 a modulo p, a figure a row.
-fn wide_planes(r: Ring, a: &[u64], y: &mut [u64])
+fn wide_planes(r: Ring, a: &[u64], y: &mut [u64; 64])
     requires words { length a.now ≡ 64 }
-    requires room { length y.old ≡ 64 }
     requires source { AllBelow (modulus_of r) a.now }
-    ensures { PlanesOf (four_times_at (modulus_of r) a.now) y.new }
+    ensures is { PlanesOf (four_times_at (modulus_of r) a.now) y.new }
+    ensures none { NoneFrom (width_of r) y.new }
 {
-    let mut k = 0;
-    while k < 64 {
+    for k in 0..64 {
         let w = a[k];
         y[k] = r.four_times(w);
-        k += 1;
     }
     transpose(y);
 }
 
 // The same, two figures a row. Planes from 32 on are 0 already: the ring has no such bit.
-fn narrow_planes(r: Ring, a: &[u64], y: &mut [u64])
+fn narrow_planes(r: Ring, a: &[u64], y: &mut [u64; 64])
     requires width { width_of r ≤ 32 }
     requires words { length a.now ≡ 64 }
-    requires room { length y.old ≡ 64 }
     requires source { AllBelow (modulus_of r) a.now }
     requires empty { NoneFrom 32 y.old }
-    ensures { PlanesOf (four_times_at (modulus_of r) a.now) y.new }
+    ensures is { PlanesOf (four_times_at (modulus_of r) a.now) y.new }
+    ensures none { NoneFrom (width_of r) y.new }
 {
-    let mut k = 0;
-    while k < 32 {
+    for k in 0..32 {
         let low = r.four_times(a[k]);
         let high = r.four_times(a[32 + k]);
         y[k] = low + (high << 32);
-        k += 1;
     }
     transpose_halves(&mut y[0..32], 1);
 }
 
 // The planes of x = 4 a modulo p, into a part whose words from 32 on are 0.
-pub fn planes_of(r: Ring, a: &[u64], y: &mut [u64])
+pub fn planes_of(r: Ring, a: &[u64], y: &mut [u64; 64])
     requires words { length a.now ≡ 64 }
-    requires room { length y.old ≡ 64 }
     requires source { AllBelow (modulus_of r) a.now }
     requires empty { NoneFrom 32 y.old }
-    ensures { PlanesOf (four_times_at (modulus_of r) a.now) y.new }
+    ensures is { PlanesOf (four_times_at (modulus_of r) a.now) y.new }
+    ensures none { NoneFrom (width_of r) y.new }
 {
     match r {
         Ring::R13 => narrow_planes(r, a, y),
@@ -58,38 +54,31 @@ pub fn planes_of(r: Ring, a: &[u64], y: &mut [u64])
 }
 
 // Word by word, o to z.
-fn copy(o: &[u64], z: &mut [u64])
-    requires from { length o.now ≡ 64 }
+fn copy(o: &[u64; 64], z: &mut [u64])
     requires to { length z.old ≡ 64 }
     ensures is { Copied 64 o.now z.new }
     ensures long { length z.new ≡ 64 }
 {
-    let mut k = 0;
-    while k < 64 {
+    for k in 0..64 {
         z[k] = o[k];
-        k += 1;
     }
 }
 
 // Two words a row of o become one a row of z.
-fn split(o: &[u64], z: &mut [u64])
-    requires from { length o.now ≡ 64 }
+fn split(o: &[u64; 64], z: &mut [u64])
     requires to { length z.old ≡ 64 }
     ensures is { Split 32 o.now z.new }
     ensures long { length z.new ≡ 64 }
 {
-    let mut k = 0;
-    while k < 32 {
+    for k in 0..32 {
         let w = o[k];
         z[k] = w & 0xffff_ffff;
         z[32 + k] = w >> 32;
-        k += 1;
     }
 }
 
 // The words of 64 figures, from their planes, a figure a row. The planes are used up.
-fn wide_rows(o: &mut [u64], z: &mut [u64])
-    requires planes { length o.old ≡ 64 }
+fn wide_rows(o: &mut [u64; 64], z: &mut [u64])
     requires room { length z.old ≡ 64 }
     ensures is { PlanesOf (words_at z.new) o.old }
     ensures long { length z.new ≡ 64 }
@@ -99,8 +88,7 @@ fn wide_rows(o: &mut [u64], z: &mut [u64])
 }
 
 // The same, two figures a row.
-fn narrow_rows(o: &mut [u64], z: &mut [u64])
-    requires planes { length o.old ≡ 64 }
+fn narrow_rows(o: &mut [u64; 64], z: &mut [u64])
     requires room { length z.old ≡ 64 }
     requires width { NoneFrom 32 o.old }
     ensures is { PlanesOf (words_at z.new) o.old }
@@ -111,8 +99,7 @@ fn narrow_rows(o: &mut [u64], z: &mut [u64])
 }
 
 // The words of 64 figures of a ring, from their planes, which are used up.
-pub fn rows_of(r: Ring, o: &mut [u64], z: &mut [u64])
-    requires planes { length o.old ≡ 64 }
+pub fn rows_of(r: Ring, o: &mut [u64; 64], z: &mut [u64])
     requires room { length z.old ≡ 64 }
     requires width { NoneFrom (width_of r) o.old }
     ensures is { PlanesOf (words_at z.new) o.old }

@@ -5,9 +5,8 @@ use Rattle.lanes.proofs.words.total_in.Goals as goal
 pub returns : goal.returns
 returns c =
     record {
-      is = c.store_planes.ensures.is
+      is = c.store.ensures.is
           ∙ ap (with_planes c.args.s.now c.args.j)
-          (c.words_xor-2.ensures ∙ ap (λ w. words_xor w c.args.last)
-          (c.words_xor.ensures ∙ ap₂ words_xor c.planes_at-b.ensures c.planes_at-u.ensures));
-      long = c.store_planes.ensures.long;
+          (c.bitxor-2.ensures ∙ ap (λ w. words_xor w c.args.last) (c.bitxor.ensures ∙ ap₂ words_xor c.at-b.ensures.is c.at-u.ensures.is));
+      whole = c.store.ensures.whole;
     }

@@ -6,6 +6,6 @@ pub returns : goal.returns
 returns c =
     let copied = c.copy in
     record {
-      is = rows_are c.transpose.ensures.is copied.ensures.is (λ k h. omega (arith, c.slice_known-4-1.given k));
+      is = rows_are c.transpose.ensures.is copied.ensures.is (λ k h. omega (arith, c.type_inv.z k));
       long = copied.ensures.long;
     }
