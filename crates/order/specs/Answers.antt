@@ -1,5 +1,5 @@
 -- 01, "Why an order is refused": each case of an answer in numbers, and the code's outcome as the definition's.
-use Rattle.std.specs.Prelude.{ℕ, cond, List, eqb}
+use Rattle.std.specs.Prelude.{ℕ, cond, List, eqb, Result, Ok, Err}
 use Rattle.gate.specs.Places.{Place}
 use Rattle.machine.specs.Step as defined
 use Rattle.machine.specs.declared.answers.Answer.{Answer}
@@ -7,8 +7,6 @@ use Rattle.machine.specs.declared.answers.Answer.TheVariants.{Done, Refused}
 use Rattle.machine.specs.declared.answers.Refusal.{Refusal}
 use Rattle.machine.specs.declared.answers.Refusal.TheVariants.{BadItem, BadLength, ChannelShort, EmptySource, NoRegister, NoRing, NotSixtyFour, OutOfRange, RingsDiffer, TapeShort, Unsound, WrongKind}
 use Rattle.order.specs.declared.answers.Outcome.{Outcome}
-use Rattle.order.specs.declared.answers.Verdict.{Verdict}
-use Rattle.order.specs.declared.answers.Verdict.TheVariants.{Because, Fine}
 
 -- "1 record not sound; 2 a register number above 15" and so on; 23 is 02's, P13
 abbrev pub number_of : Refusal → ℕ
@@ -40,9 +38,9 @@ gates_of (Done v g) = g
 gates_of (Refused w) = 0
 
 -- the refusal of checks that come before the rest of an order, or 0
-abbrev pub verdict_of : Verdict → ℕ
-verdict_of Fine = 0
-verdict_of (Because w) = number_of w
+abbrev pub verdict_of : {A : Type 0} → Result A Refusal → ℕ
+verdict_of (Ok x) = 0
+verdict_of (Err w) = number_of w
 
 -- the first of two verdicts that refuses
 abbrev pub first_nonzero : ℕ → ℕ → ℕ

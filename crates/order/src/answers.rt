@@ -1,15 +1,8 @@
-// Verdicts and outcomes, and the answers' numbers.
-ghost use Rattle.std.specs.Prelude.{cond, ◌≡◌};
-ghost use Rattle.order.specs.Answers.{first_nonzero, gates_of, number_of, refusal_of, value_of, verdict_of};
+// Outcomes, and the answers' numbers.
+ghost use Rattle.std.specs.Prelude.{◌≡◌};
+ghost use Rattle.order.specs.Answers.{gates_of, number_of, refusal_of, value_of};
 
 use machine::{Answer, Machine, Refusal};
-
-// What checks say.
-#[derive(Clone, Copy)]
-pub enum Verdict {
-    Fine,
-    Because(Refusal),
-}
 
 // The record that an order leaves, and its answer.
 #[derive(Clone, Copy)]
@@ -65,27 +58,5 @@ pub fn gates(a: Answer) -> u64
     match a {
         Answer::Done { value: _, gates } => gates,
         Answer::Refused(_) => 0,
-    }
-}
-
-// The verdict of one check.
-pub fn refuse_if(met: bool, w: Refusal) -> Verdict
-    ensures { verdict_of result ≡ cond met (number_of w) 0 }
-{
-    if met {
-        return Verdict::Because(w);
-    }
-    Verdict::Fine
-}
-
-impl Verdict {
-    // This verdict, or where it is fine the next.
-    pub fn then(self, next: Verdict) -> Verdict
-        ensures { verdict_of result ≡ first_nonzero (verdict_of self) (verdict_of next) }
-    {
-        match self {
-            Verdict::Fine => next,
-            Verdict::Because(w) => Verdict::Because(w),
-        }
     }
 }
