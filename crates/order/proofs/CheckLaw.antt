@@ -14,7 +14,8 @@ use Rattle.machine.specs.declared.orders.Order.{Order}
 use Rattle.machine.specs.declared.orders.Order.TheVariants.{Add, Compose, Convert, Deal, Decompose, Multiply, Open, Scale, Shift}
 use Rattle.machine.specs.declared.registers.Machine.{Machine}
 use Rattle.machine.specs.declared.answers.Refusal.{Refusal}
-use Rattle.order.specs.Answers.{first_nonzero, number_of, verdict_of}
+use Rattle.machine.specs.Answers.{number_of}
+use Rattle.order.specs.Answers.{first_nonzero, verdict_of}
 use Rattle.order.specs.Attempts.{begin_checks, record_refusal}
 use Rattle.order.proofs.VerdictLaw.{first_refusal}
 

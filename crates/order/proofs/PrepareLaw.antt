@@ -24,7 +24,7 @@ use Rattle.machine.specs.declared.registers.Machine.{Machine}
 use Rattle.machine.specs.declared.registers.Register.{Register}
 use Rattle.machine.specs.declared.registers.Register.TheVariants.{Bits, Number}
 use Rattle.machine.proofs.SlotLaw.{kind-at}
-use Rattle.order.specs.Answers.{number_of}
+use Rattle.machine.specs.Answers.{number_of}
 use Rattle.order.specs.Attempts.{Prepares, begin_checks, record_refusal, some_bits}
 use Rattle.order.specs.Sources.{first_source, sources_in}
 use Rattle.order.specs.Tasks.{Seated, added_to, scaled_by}
@@ -197,13 +197,20 @@ compose_prepares m d x f {l} {z} {g} at fine to =
     same same (seat m o d (x ∷ []) refl fine)
     (few_bits m (good m o fine) x at)
 
--- two numbers of one ring
-pub pair_checks : (m : Machine) (d x y : ℕ) {s : Sources} → s.sound ≡ sound m → s.a ≡ register_at m x → s.b ≡ register_at m y
+-- an order on two sources
+module _ (m : Machine) {s : Sources} (x y : ℕ) where
+  pub pair_left : {a : Register} → s ≡ record { sound = sound m; a = register_at m x; b = register_at m y } → s.a ≡ a → a ≡ register_at m x
+  pair_left from is = sym is ∙ ap (λ (s : Sources). s.a) from
+
+  pub pair_right : {b : Register} → s ≡ record { sound = sound m; a = register_at m x; b = register_at m y } → s.b ≡ b → b ≡ register_at m y
+  pair_right from is = sym is ∙ ap (λ (s : Sources). s.b) from
+
+pub pair_checks : (m : Machine) (d x y : ℕ) {s : Sources} → s ≡ record { sound = sound m; a = register_at m x; b = register_at m y }
     → (o : Order) → named o ≡ d ∷ x ∷ y ∷ [] → kind_checks o (public_of m) ≡ two_numbers (kind_at (public_of m) x) (kind_at (public_of m) y)
     → record_refusal o m ≡ first_met (begin_checks s.sound (d ∷ x ∷ y ∷ []) ++ two_numbers (kind_of s.a) (kind_of s.b))
 unfolding record_refusal
-pair_checks m d x y sure left right o names its =
-    rw (names, its, kind_of_lem m x left, kind_of_lem m y right, sure) refl
+pair_checks m d x y from o names its =
+    rw (names, its, from, kind_of_lem m x refl, kind_of_lem m y refl) refl
 
 -- what a width that is parsed says
 pub parsed : (o : Option Ring) (w : Refusal) {g : Ring} → ok_or o w ≡ Ok g → o ≡ Some g

@@ -20,7 +20,8 @@ use Rattle.machine.specs.declared.answers.Refusal.{Refusal}
 use Rattle.machine.specs.declared.orders.Order.{Order}
 use Rattle.machine.specs.declared.registers.Machine.{Machine}
 use Rattle.machine.specs.declared.registers.Register.{Register}
-use Rattle.order.specs.Answers.{first_nonzero, number_of}
+use Rattle.machine.specs.Answers.{number_of}
+use Rattle.order.specs.Answers.{first_nonzero}
 use Rattle.order.specs.Attempts.{Prepares, attempted, begin_checks, record_refusal, length_verdict, masks_left, ran, tried}
 use Rattle.order.specs.Tasks.{Fit, Seated, circuit_of, kind_left, other_of, source_of}
 use Rattle.order.specs.declared.tasks.Prepared.{Prepared}

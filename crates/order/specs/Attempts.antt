@@ -9,7 +9,7 @@ use Rattle.machine.specs.Step.{Outcome, refused, step, stored, written}
 use Rattle.machine.specs.declared.orders.Order.{Order}
 use Rattle.machine.specs.declared.registers.Machine.{Machine}
 use Rattle.machine.specs.declared.answers.Refusal.{Refusal}
-use Rattle.order.specs.Answers.{number_of}
+use Rattle.machine.specs.Answers.{number_of}
 use Rattle.order.specs.Tasks.{Ready, circuit_of, kind_left, other_of, source_of}
 use Rattle.order.specs.declared.tasks.Prepared.{Prepared}
 use Rattle.order.specs.declared.tasks.Prepared.TheVariants.{Gates, Local}

@@ -12,7 +12,7 @@ use Rattle.machine.specs.Registers.{kind_of}
 use Rattle.machine.specs.declared.answers.Refusal.{Refusal}
 use Rattle.machine.specs.declared.registers.Register.{Register}
 use Rattle.machine.specs.declared.registers.Register.TheVariants.{Bits, Empty, Number}
-use Rattle.order.specs.Answers.{number_of}
+use Rattle.machine.specs.Answers.{number_of}
 use Rattle.order.proofs.CheckLaw.{met, passed_on}
 use Rattle.order.proofs.VerdictLaw.{numbered}
 use Rattle.order.proofs.verdicts.two_numbers.Goals as goal
