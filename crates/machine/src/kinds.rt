@@ -20,60 +20,6 @@ impl Register {
         }
     }
 
-    pub fn is_bits(self) -> bool
-        ensures { result ≡ is_bits (kind_of self) }
-    {
-        match self {
-            Register::Empty => false,
-            Register::Number(_, _) => false,
-            Register::Bits(_, _) => true,
-        }
-    }
-
-    // The ring of a number, else R13.
-    pub fn ring(self) -> Ring
-        ensures { result ≡ ring_at (kind_of self) }
-    {
-        match self {
-            Register::Empty => Ring::R13,
-            Register::Number(r, _) => r,
-            Register::Bits(_, _) => Ring::R13,
-        }
-    }
-
-    // e of a number, else 0.
-    pub fn width(self) -> u64
-        ensures { result ≡ width_at (kind_of self) }
-    {
-        match self {
-            Register::Empty => 0,
-            Register::Number(r, _) => r.width(),
-            Register::Bits(_, _) => 0,
-        }
-    }
-
-    // p of a number, else 0.
-    pub fn modulus(self) -> u64
-        ensures { result ≡ modulus (width_at (kind_of self)) }
-    {
-        match self {
-            Register::Empty => 0,
-            Register::Number(r, _) => r.modulus(),
-            Register::Bits(_, _) => 0,
-        }
-    }
-
-    // l of bits, else 0.
-    pub fn count(self) -> u64
-        ensures { result ≡ count_at (kind_of self) }
-    {
-        match self {
-            Register::Empty => 0,
-            Register::Number(_, _) => 0,
-            Register::Bits(l, _) => l,
-        }
-    }
-
     // The sub-shares, zeros where there are none.
     pub fn shares(self) -> Sharing
         ensures { result ≡ shares_of self }
