@@ -1,23 +1,17 @@
-// What is public of a register, its sub-shares and its value.
+// Whether a register is empty, its sub-shares and its value.
 ghost use Rattle.std.specs.Prelude.{true, ◌≡◌};
-ghost use Rattle.ring.specs.Rings.{modulus};
-ghost use Rattle.machine.specs.Checks.{is_bits, is_empty};
-ghost use Rattle.machine.specs.Registers.{count_at, kind_of, ring_at, shares_of, sound_register, width_at};
+ghost use Rattle.machine.specs.Checks.{is_empty};
+ghost use Rattle.machine.specs.Registers.{kind_of, shares_of, sound_register};
 ghost use Rattle.machine.specs.Step.{value_of};
 
 use crate::registers::Register;
 use gate::Sharing;
-use ring::Ring;
 
 impl Register {
     pub fn is_empty(self) -> bool
         ensures { result ≡ is_empty (kind_of self) }
     {
-        match self {
-            Register::Empty => true,
-            Register::Number(_, _) => false,
-            Register::Bits(_, _) => false,
-        }
+        matches!(self, Register::Empty)
     }
 
     // The sub-shares, zeros where there are none.
@@ -30,8 +24,7 @@ impl Register {
                 s1: 0,
                 s2: 0,
             },
-            Register::Number(_, x) => x,
-            Register::Bits(_, x) => x,
+            Register::Number(_, x) | Register::Bits(_, x) => x,
         }
     }
 

@@ -17,11 +17,14 @@ pub enum Register {
 // 01: "The machine record has 16 registers (0 to 15) and three positions: strand, wire, dealer".
 #[derive(Clone, Copy)]
 pub struct Machine {
-    pub slots: [Register; 16],
+    pub slots: [Register; REGISTERS],
     pub masks_at: u64,
     pub channels_at: u64,
     pub dealer_at: u64,
 }
+
+// 01: "16 registers (0 to 15)".
+pub const REGISTERS: usize = 16;
 
 // 01: "each position is at most 1,000,000", and so is each lent run's length.
 pub const MILLION: u64 = 1_000_000;
@@ -31,6 +34,7 @@ const MOST_BITS: u64 = 59;
 
 impl Register {
     // Each sub-share in range, and 1 to 59 bits.
+    #[tactic(auto, unfolding(crate::specs::Registers::sound_register))]
     pub fn is_sound(self) -> bool
         ensures { result ≡ sound_register self }
     {
@@ -61,7 +65,7 @@ impl Machine {
         ensures { result ≡ empty_machine }
     {
         Machine {
-            slots: [Register::Empty; 16],
+            slots: [Register::Empty; REGISTERS],
             masks_at: 0,
             channels_at: 0,
             dealer_at: 0,
@@ -69,13 +73,14 @@ impl Machine {
     }
 
     // Register k, empty past the last.
+    #[tactic(auto, unfolding(crate::specs::Registers::register_at))]
     pub fn register(self, k: u64) -> Register
         ensures { result ≡ register_at self k }
     {
-        if 15 < k {
-            return Register::Empty;
-        }
-        self.slots[k as usize]
+        self.slots
+            .get(k as usize)
+            .copied()
+            .unwrap_or(Register::Empty)
     }
 
     // The record with another register d.
