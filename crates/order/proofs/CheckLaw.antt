@@ -1,6 +1,10 @@
 -- Lists of checks: one after another, and what no refusal says.
+use Rattle.std.specs.Prelude.{Result, Ok, Err}
+use Rattle.std.specs.List.{list_any}
+use Rattle.std.specs.Result.{IsErrAnd}
+use Rattle.std.proofs.lemmas.Result.{err_from_is_err_and}
 use Prim.Native.Nat.{ℕ}
-use mathlib.Core.Bool.{Bool, cond, false, not, true, or_self_left, ◌||◌}
+use mathlib.Core.Bool.{Bool, cond, false, true, ◌||◌}
 use mathlib.Core.List.{List, [], ◌∷◌, ◌++◌}
 use mathlib.Core.Path.{◌≡◌, refl, ap, ap₂, sym, ◌∙◌}
 use lib.Dec.{T, eqb, ltb}
@@ -10,10 +14,9 @@ use Rattle.machine.specs.declared.orders.Order.{Order}
 use Rattle.machine.specs.declared.orders.Order.TheVariants.{Add, Compose, Convert, Deal, Decompose, Multiply, Open, Scale, Shift}
 use Rattle.machine.specs.declared.registers.Machine.{Machine}
 use Rattle.machine.specs.declared.answers.Refusal.{Refusal}
-use Rattle.order.specs.Answers.{first_nonzero, number_of, verdict_of}
+use Rattle.machine.specs.Answers.{number_of}
+use Rattle.order.specs.Answers.{first_nonzero, verdict_of}
 use Rattle.order.specs.Attempts.{begin_checks, record_refusal}
-use Rattle.order.specs.declared.answers.Verdict.{Verdict}
-use Rattle.order.specs.declared.answers.Verdict.TheVariants.{Because, Fine}
 use Rattle.order.proofs.VerdictLaw.{first_refusal}
 
 -- no check of the list refuses with 0
@@ -34,6 +37,12 @@ joined (k ∷ ks) ls h = go k.met (eqb k.refusal 0) refl h (joined ks ls)
     go true true e h rest = elim h [ ]
     go false true e h rest = elim h [ ]
 
+-- register numbers tested one by one
+pub above15_is : (names : List ℕ) → list_any (λ k. ltb 15 k) names ≡ any_above15 names
+unfolding any_above15
+above15_is [] = refl
+above15_is (k ∷ ks) = ap (λ (b : Bool). ltb 15 k || b) (above15_is ks)
+
 -- a check that is met, and one that is not
 pub met : {b : Bool} (n : ℕ) (cs : List Check) → b ≡ true → n ≡ first_met (check b n ∷ cs)
 unfolding first_met
@@ -42,6 +51,11 @@ met n cs e = sym (ap (λ (b : Bool). cond b n (first_met cs)) e)
 pub passed : {b : Bool} {v : ℕ} (n : ℕ) (cs : List Check) → b ≡ false → v ≡ first_met cs → v ≡ first_met (check b n ∷ cs)
 unfolding first_met
 passed n cs e h = h ∙ sym (ap (λ (b : Bool). cond b n (first_met cs)) e)
+
+-- the last
+pub all_passed : {b : Bool} (n : ℕ) → b ≡ false → 0 ≡ first_met (check b n ∷ [])
+unfolding first_met
+all_passed n e = sym (ap (λ (b : Bool). cond b n 0) e)
 
 -- a check that does not refuse is not met
 pub unmet : (b : Bool) (n : ℕ) (cs : List Check) → eqb n 0 ≡ false → first_met (check b n ∷ cs) ≡ 0 → b ≡ false
@@ -71,20 +85,20 @@ module _ (m : Machine) (o : Order) where
   unfolding record_refusal
   record_then rest = joined (begin_checks (sound m) (named o) ++ kind_checks o (public_of m)) rest (begin_refuses m o)
 
--- a register that is named twice
-pub begin_twice : (sure : Bool) (d x : ℕ) {v : ℕ} → v ≡ first_met (begin_checks sure (d ∷ x ∷ x ∷ [])) → v ≡ first_met (begin_checks sure (d ∷ x ∷ []))
-unfolding any_above15
-begin_twice sure d x e =
-    e ∙ ap (λ (b : Bool). first_met (check (not sure) 1 ∷ check (ltb 15 d || b) 2 ∷ [])) (or_self_left (ltb 15 x) false)
-
 -- one list, then another
 pub then-joined : (ks ls : List Check) → T (refusing ks) → {u v w : ℕ} → u ≡ first_nonzero v w → v ≡ first_met ks → w ≡ first_met ls → u ≡ first_met (ks ++ ls)
 then-joined ks ls h e f g = e ∙ ap₂ first_nonzero f g ∙ sym (joined ks ls h)
 
 -- where the first of them has given a verdict
-module _ (ks ls : List Check) (h : T (refusing ks)) {v : Verdict} (first : verdict_of v ≡ first_met ks) where
-  pub refused-first : {w : Refusal} → v ≡ Because w → number_of w ≡ first_met (ks ++ ls)
-  refused-first {w} e = then-joined ks ls h (first_refusal w _) (sym (ap verdict_of e) ∙ first) refl
+module _ (ks ls : List Check) (h : T (refusing ks)) where
+  pub refused-first : (w : Refusal) → number_of w ≡ first_met ks → number_of w ≡ first_met (ks ++ ls)
+  refused-first w e = then-joined ks ls h (first_refusal w _) e refl
 
-  pub fine_first : {n : ℕ} → v ≡ Fine → n ≡ first_met ls → n ≡ first_met (ks ++ ls)
-  fine_first e = then-joined ks ls h refl (sym (ap verdict_of e) ∙ first)
+  pub fine_first : {n : ℕ} → 0 ≡ first_met ks → n ≡ first_met ls → n ≡ first_met (ks ++ ls)
+  fine_first e = then-joined ks ls h refl e
+
+-- a refusal that is passed on
+pub passed_on : {A : Type 0} (r : Result A Refusal) (w : Refusal) {n : ℕ} → IsErrAnd r (λ e. e ≡ w) → number_of w ≡ n → verdict_of r ≡ n
+passed_on r w told is =
+    let p = err_from_is_err_and r told in
+    rw (p.1, p.2) is

@@ -1,4 +1,7 @@
 -- A step in two parts: what the record alone decides, then lengths, items and gates.
+use Rattle.std.specs.Prelude.{Ok, Err, Result}
+use Rattle.std.specs.Result.{IsErrAnd}
+use Rattle.std.proofs.lemmas.Result.{err_from_is_err_and}
 use Prim.Native.Nat.{ℕ}
 use mathlib.Core.Bool.{Bool, cond, false, true}
 use mathlib.Core.List.{List, [], ◌∷◌, ◌++◌, append_assoc}
@@ -17,12 +20,12 @@ use Rattle.machine.specs.declared.answers.Refusal.{Refusal}
 use Rattle.machine.specs.declared.orders.Order.{Order}
 use Rattle.machine.specs.declared.registers.Machine.{Machine}
 use Rattle.machine.specs.declared.registers.Register.{Register}
-use Rattle.order.specs.Answers.{first_nonzero, number_of, verdict_of}
+use Rattle.machine.specs.Answers.{number_of}
+use Rattle.order.specs.Answers.{first_nonzero}
 use Rattle.order.specs.Attempts.{Prepares, attempted, begin_checks, record_refusal, length_verdict, masks_left, ran, tried}
 use Rattle.order.specs.Tasks.{Fit, Seated, circuit_of, kind_left, other_of, source_of}
-use Rattle.order.specs.declared.answers.Verdict.{Verdict}
-use Rattle.order.specs.declared.answers.Verdict.TheVariants as verdict
-use Rattle.order.specs.declared.tasks.Prepared.TheVariants.{Because, Gates, Local}
+use Rattle.order.specs.declared.tasks.Prepared.{Prepared}
+use Rattle.order.specs.declared.tasks.Prepared.TheVariants.{Gates, Local}
 use Rattle.order.specs.declared.tasks.Task.{Task}
 use Rattle.order.proofs.CheckLaw.{joined, record_then}
 use Rattle.order.proofs.VerdictLaw.{first_refusal, numbered}
@@ -84,7 +87,7 @@ module _ (m : Machine) (d x y : ℕ) where
   ran_is t T c left right = rw (left, right)
 
   gates_are : (t : Task) (D : List ℕ) (T c : Place → List ℕ) → shares_of (register_at m x) ≡ source_of t → shares_of (register_at m y) ≡ other_of t
-      → later (computes (circuit_of t) d x y (kind_left t)) m (tapes D T) c ≡ attempted (Gates t) d m T c
+      → later (computes (circuit_of t) d x y (kind_left t)) m (tapes D T) c ≡ attempted (Ok (Gates t)) d m T c
   unfolding attempted tried first_met
   gates_are t D T c left right =
       let C = circuit_of t in
@@ -117,10 +120,12 @@ module _ (o : Order) (m : Machine) where
   step-later e T c = rw (checks_split T c, e)
 
   -- refused for its kinds
-  pub because : (d : ℕ) {v : Verdict} {w : Refusal} → verdict_of v ≡ record_refusal o m → v ≡ verdict.Because w → Prepares o m d (Because w)
+  pub because : (d : ℕ) {w : Refusal} → record_refusal o m ≡ number_of w → Prepares o m d (Err w)
   unfolding attempted
-  because d {v} {w} e h =
-      record { is = λ D T c. step-refused w (sym e ∙ ap verdict_of h) (record { masks = T; dealer = D }) c; ready = tt }
+  because d {w} e = record { is = λ D T c. step-refused w e (record { masks = T; dealer = D }) c; ready = tt }
+
+  pub told : {d : ℕ} (r : Result Prepared Refusal) (w : Refusal) → IsErrAnd r (λ e. e ≡ w) → Prepares o m d (Err w) → Prepares o m d r
+  told r w is h = let p = err_from_is_err_and r is in rw (p.1, p.2) h
 
   -- place by place: a circuit with no gates
   pub locally : (C : Circuit) (d x y : ℕ) (kind : Kind) (r : Register)
@@ -129,7 +134,7 @@ module _ (o : Order) (m : Machine) where
       → C.gates ≡ []
       → ((T : Place → List ℕ) → register_of kind (sharing (result C (parts (shares_of (register_at m x))) (parts (shares_of (register_at m y))) T)) ≡ r)
       → Seated m d
-      → Prepares o m d (Local r)
+      → Prepares o m d (Ok (Local r))
   unfolding attempted
   locally C d x y kind r fine work none is seat =
       record {
@@ -148,7 +153,7 @@ module _ (o : Order) (m : Machine) where
       → shares_of (register_at m y) ≡ other_of t
       → Seated m d
       → Fit t
-      → Prepares o m d (Gates t)
+      → Prepares o m d (Ok (Gates t))
   gated d x y t fine work left right seat fit =
       record {
         is = λ D T c.

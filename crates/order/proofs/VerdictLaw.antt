@@ -9,7 +9,8 @@ use lib.Dec.{eqb, ltb}
 use Rattle.machine.specs.Checks.{Check, check, first_met}
 use Rattle.machine.specs.declared.answers.Refusal.{Refusal}
 use Rattle.machine.specs.declared.answers.Refusal.TheVariants.{BadItem, BadLength, ChannelShort, EmptySource, NoRegister, NoRing, NotSixtyFour, OutOfRange, RingsDiffer, TapeShort, Unsound, WrongKind}
-use Rattle.order.specs.Answers.{first_nonzero, number_of}
+use Rattle.machine.specs.Answers.{number_of}
+use Rattle.order.specs.Answers.{first_nonzero}
 
 pub one-check : {v : ℕ} (n : ℕ) {b t : Bool} → v ≡ cond b n 0 → b ≡ t → v ≡ first_met (check t n ∷ [])
 unfolding first_met

@@ -1,48 +1,29 @@
 -- 01, "Why an order is refused": each case of an answer in numbers, and the code's outcome as the definition's.
-use Rattle.std.specs.Prelude.{ℕ, cond, List, eqb}
+use Rattle.std.specs.Prelude.{ℕ, cond, List, eqb, Result, Ok, Err}
 use Rattle.gate.specs.Places.{Place}
 use Rattle.machine.specs.Step as defined
-use Rattle.machine.specs.declared.answers.Answer.{Answer}
-use Rattle.machine.specs.declared.answers.Answer.TheVariants.{Done, Refused}
+use Rattle.machine.specs.Answers.{number_of}
+use Rattle.machine.specs.declared.answers.Done.{Done}
 use Rattle.machine.specs.declared.answers.Refusal.{Refusal}
-use Rattle.machine.specs.declared.answers.Refusal.TheVariants.{BadItem, BadLength, ChannelShort, EmptySource, NoRegister, NoRing, NotSixtyFour, OutOfRange, RingsDiffer, TapeShort, Unsound, WrongKind}
 use Rattle.order.specs.declared.answers.Outcome.{Outcome}
-use Rattle.order.specs.declared.answers.Verdict.{Verdict}
-use Rattle.order.specs.declared.answers.Verdict.TheVariants.{Because, Fine}
 
--- "1 record not sound; 2 a register number above 15" and so on; 23 is 02's, P13
-abbrev pub number_of : Refusal → ℕ
-number_of Unsound = 1
-number_of NoRegister = 2
-number_of EmptySource = 3
-number_of WrongKind = 4
-number_of NoRing = 5
-number_of RingsDiffer = 6
-number_of OutOfRange = 7
-number_of BadLength = 8
-number_of TapeShort = 9
-number_of ChannelShort = 11
-number_of BadItem = 10
-number_of NotSixtyFour = 23
+-- the refusal of what checks allow, or 0
+abbrev pub verdict_of : {A : Type 0} → Result A Refusal → ℕ
+verdict_of (Ok x) = 0
+verdict_of (Err w) = number_of w
 
 -- 0 where nothing is refused
-abbrev pub refusal_of : Answer → ℕ
-refusal_of (Done v g) = 0
-refusal_of (Refused w) = number_of w
+abbrev pub refusal_of : Result Done Refusal → ℕ
+refusal_of a = verdict_of a
 
 -- "A refused order answers value 0 and 0 gates"
-abbrev pub value_of : Answer → ℕ
-value_of (Done v g) = v
-value_of (Refused w) = 0
+abbrev pub value_of : Result Done Refusal → ℕ
+value_of (Ok done) = done.value
+value_of (Err w) = 0
 
-abbrev pub gates_of : Answer → ℕ
-gates_of (Done v g) = g
-gates_of (Refused w) = 0
-
--- the refusal of checks that come before the rest of an order, or 0
-abbrev pub verdict_of : Verdict → ℕ
-verdict_of Fine = 0
-verdict_of (Because w) = number_of w
+abbrev pub gates_of : Result Done Refusal → ℕ
+gates_of (Ok done) = done.gates
+gates_of (Err w) = 0
 
 -- the first of two verdicts that refuses
 abbrev pub first_nonzero : ℕ → ℕ → ℕ

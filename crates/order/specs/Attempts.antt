@@ -1,18 +1,18 @@
 -- Orders 2 to 8 in two parts: what the record alone decides, and what lengths, items and gates do.
 -- Used by the code's contracts alone: no theorem's statement speaks of it.
-use Rattle.std.specs.Prelude.{ℕ, Bool, cond, not, List, [], ◌∷◌, ◌++◌, ◌≡◌, eqb, drop, length}
+use Rattle.std.specs.Prelude.{ℕ, Bool, cond, not, List, [], ◌∷◌, ◌++◌, ◌≡◌, eqb, drop, length, Result, Ok, Err}
 use Rattle.gate.specs.Places.{Place, parts, sharing, tabled}
 use Rattle.circuit.specs.Circuits.{channelled, gates_of, moduli, result}
-use Rattle.machine.specs.Checks.{Check, Lengths, any_above15, any_bad, check, first_met, gate_checks, kind_checks, named}
-use Rattle.machine.specs.Registers.{Public, public_of, register_at, register_of, sound}
+use Rattle.machine.specs.Checks.{Check, Lengths, any_above15, any_bad, check, first_met, gate_checks, is_empty, is_number, kind_checks, named}
+use Rattle.machine.specs.Registers.{Kind, public_of, register_of, sound}
 use Rattle.machine.specs.Step.{Outcome, refused, step, stored, written}
 use Rattle.machine.specs.declared.orders.Order.{Order}
 use Rattle.machine.specs.declared.registers.Machine.{Machine}
-use Rattle.machine.specs.declared.registers.Register.{Register}
-use Rattle.order.specs.Answers.{number_of}
+use Rattle.machine.specs.declared.answers.Refusal.{Refusal}
+use Rattle.machine.specs.Answers.{number_of}
 use Rattle.order.specs.Tasks.{Ready, circuit_of, kind_left, other_of, source_of}
 use Rattle.order.specs.declared.tasks.Prepared.{Prepared}
-use Rattle.order.specs.declared.tasks.Prepared.TheVariants.{Because, Gates, Local}
+use Rattle.order.specs.declared.tasks.Prepared.TheVariants.{Gates, Local}
 use Rattle.order.specs.declared.tasks.Task.{Task}
 
 -- "Every order: 1 record not sound; 2 a register number above 15"
@@ -23,11 +23,9 @@ begin_checks sure names = check (not sure) 1 ∷ check (any_above15 names) 2 ∷
 unfoldable pub record_refusal : Order → Machine → ℕ
 record_refusal o m = first_met (begin_checks (sound m) (named o) ++ kind_checks o (public_of m))
 
--- what orders read of a record: whether it is sound, and registers x and y
-pub record Sources (m : Machine) (sure : Bool) (x : ℕ) (a : Register) (y : ℕ) (b : Register) : Type 0 where
-  pub sound : sure ≡ sound m
-  pub first : a ≡ register_at m x
-  pub second : b ≡ register_at m y
+-- "Compose: 3 a source empty; 4 a source is a number"
+abbrev pub some_bits : Kind → List Check
+some_bits x = check (is_empty x) 3 ∷ check (is_number x) 4 ∷ []
 
 -- lengths of mask tapes and channels; the dealer's tape takes no part
 abbrev pub lengths_in : (masks channels : Place → ℕ) → Lengths
@@ -39,15 +37,6 @@ lengths_of T c = lengths_in (tabled (λ i. length (T i))) (tabled (λ i. length 
 -- what is left of the mask tapes
 abbrev pub masks_left : Machine → (Place → List ℕ) → Place → List ℕ
 masks_left m T = tabled (λ i. drop m.masks_at (T i))
-
--- the positions of mask tapes and channels of a record
-pub record At (m : Machine) (at ch : ℕ) : Type 0 where
-  pub masks : at ≡ m.masks_at
-  pub channels : ch ≡ m.channels_at
-
--- and all that checks 9 and 11 read of it
-abbrev pub positions : (masks channels : ℕ) → Public
-positions masks channels = record { kinds = []; masks_at = masks; channels_at = channels; dealer_at = 0 }
 
 -- the gates of a task
 unfoldable pub ran : Task → ℕ → Machine → (Place → List ℕ) → (Place → List ℕ) → Outcome
@@ -67,13 +56,13 @@ tried t d m T c =
 abbrev pub length_verdict : Task → Machine → (Place → List ℕ) → (Place → List ℕ) → ℕ
 length_verdict t m T c = first_met (gate_checks (gates_of (circuit_of t)) (public_of m) (lengths_of T c))
 
-unfoldable pub attempted : Prepared → ℕ → Machine → (Place → List ℕ) → (Place → List ℕ) → Outcome
-attempted (Because w) d m T c = refused (number_of w) m c
-attempted (Local r) d m T c = stored d r 0 0 m c
-attempted (Gates t) d m T c =
+unfoldable pub attempted : Result Prepared Refusal → ℕ → Machine → (Place → List ℕ) → (Place → List ℕ) → Outcome
+attempted (Err w) d m T c = refused (number_of w) m c
+attempted (Ok (Local r)) d m T c = stored d r 0 0 m c
+attempted (Ok (Gates t)) d m T c =
     cond (eqb (length_verdict t m T c) 0) (tried t d m T c) (refused (length_verdict t m T c) m c)
 
 -- attempting t is the order o, whatever tapes and channels there are
-pub record Prepares (o : Order) (m : Machine) (d : ℕ) (t : Prepared) : Type 0 where
+pub record Prepares (o : Order) (m : Machine) (d : ℕ) (t : Result Prepared Refusal) : Type 0 where
   pub is : (D : List ℕ) (T c : Place → List ℕ) → step o m (record { masks = T; dealer = D }) c ≡ attempted t d m T c
   pub ready : Ready m d t

@@ -1,4 +1,5 @@
 pub mod Answers
 pub mod Attempts
 pub mod Changes
+pub mod Sources
 pub mod Tasks

@@ -1,6 +1,6 @@
 -- 01, "The nine orders": orders 2 to 8 once their sources are found.
 -- Used by the code's contracts alone: no theorem's statement speaks of it.
-use Rattle.std.specs.Prelude.{ℕ, ◌+◌, ◌*◌, ◌-◌, ◌%◌, ◌≤◌, ◌<◌}
+use Rattle.std.specs.Prelude.{ℕ, ◌+◌, ◌*◌, ◌-◌, ◌%◌, ◌≤◌, ◌<◌, Result, Ok, Err}
 use Rattle.ring.specs.Rings.{modulus_of, width_of}
 use Rattle.ring.specs.declared.rings.Ring.{Ring}
 use Rattle.gate.specs.Places.{InRange}
@@ -8,10 +8,11 @@ use Rattle.gate.specs.declared.sharing.Sharing.{Sharing}
 use Rattle.circuit.specs.Circuits.{Circuit}
 use Rattle.circuit.specs.Orders.{composition, conversion, decomposition, multiplication, shifting}
 use Rattle.machine.specs.Registers.{Kind, bits, million, number}
+use Rattle.machine.specs.declared.answers.Refusal.{Refusal}
 use Rattle.machine.specs.declared.registers.Machine.{Machine}
 use Rattle.order.specs.declared.tasks.Cost.{Cost}
 use Rattle.order.specs.declared.tasks.Prepared.{Prepared}
-use Rattle.order.specs.declared.tasks.Prepared.TheVariants.{Because, Gates, Local}
+use Rattle.order.specs.declared.tasks.Prepared.TheVariants.{Gates, Local}
 use Rattle.order.specs.declared.tasks.Task.{Task}
 use Rattle.order.specs.declared.tasks.Task.TheVariants.{Compose, Convert, Decompose, Multiply, Shift}
 
@@ -90,10 +91,10 @@ pub record Seated (m : Machine) (d : ℕ) : Type 0 where
   pub dealer : m.dealer_at ≤ million
 
 -- what an order with such a step needs of the record
-abbrev pub Ready : Machine → ℕ → Prepared → Type 0
-Ready m d (Because w) = Unit {0}
-Ready m d (Local r) = Seated m d
-Ready m d (Gates t) = Seated m d × Fit t
+abbrev pub Ready : Machine → ℕ → Result Prepared Refusal → Type 0
+Ready m d (Err w) = Unit {0}
+Ready m d (Ok (Local r)) = Seated m d
+Ready m d (Ok (Gates t)) = Seated m d × Fit t
 
 -- order 2: "sub-share by sub-share"
 abbrev pub added_to : ℕ → Sharing → Sharing → Sharing

@@ -1,15 +1,8 @@
-// Verdicts and outcomes, and the answers' numbers.
-ghost use Rattle.std.specs.Prelude.{cond, ◌≡◌};
-ghost use Rattle.order.specs.Answers.{first_nonzero, gates_of, number_of, refusal_of, value_of, verdict_of};
+// Outcomes, and the answers' numbers.
+ghost use Rattle.std.specs.Prelude.{◌≡◌};
+ghost use Rattle.order.specs.Answers.{gates_of, refusal_of, value_of};
 
-use machine::{Answer, Machine, Refusal};
-
-// What checks say.
-#[derive(Clone, Copy)]
-pub enum Verdict {
-    Fine,
-    Because(Refusal),
-}
+use machine::{Answer, Machine};
 
 // The record that an order leaves, and its answer.
 #[derive(Clone, Copy)]
@@ -18,33 +11,13 @@ pub struct Outcome {
     pub answer: Answer,
 }
 
-// The number of a refusal.
-fn number(w: Refusal) -> u64
-    ensures { result ≡ number_of w }
-{
-    match w {
-        Refusal::Unsound => 1,
-        Refusal::NoRegister => 2,
-        Refusal::EmptySource => 3,
-        Refusal::WrongKind => 4,
-        Refusal::NoRing => 5,
-        Refusal::RingsDiffer => 6,
-        Refusal::OutOfRange => 7,
-        Refusal::BadLength => 8,
-        Refusal::TapeShort => 9,
-        Refusal::ChannelShort => 11,
-        Refusal::BadItem => 10,
-        Refusal::NotSixtyFour => 23,
-    }
-}
-
 // The number of an answer's refusal, 0 where the order was accepted.
 pub fn refusal(a: Answer) -> u64
     ensures { result ≡ refusal_of a }
 {
     match a {
-        Answer::Done { value: _, gates: _ } => 0,
-        Answer::Refused(w) => number(w),
+        Ok(_) => 0,
+        Err(w) => w.number(),
     }
 }
 
@@ -53,8 +26,8 @@ pub fn value(a: Answer) -> u64
     ensures { result ≡ value_of a }
 {
     match a {
-        Answer::Done { value, gates: _ } => value,
-        Answer::Refused(_) => 0,
+        Ok(done) => done.value,
+        Err(_) => 0,
     }
 }
 
@@ -63,29 +36,7 @@ pub fn gates(a: Answer) -> u64
     ensures { result ≡ gates_of a }
 {
     match a {
-        Answer::Done { value: _, gates } => gates,
-        Answer::Refused(_) => 0,
-    }
-}
-
-// The verdict of one check.
-pub fn refuse_if(met: bool, w: Refusal) -> Verdict
-    ensures { verdict_of result ≡ cond met (number_of w) 0 }
-{
-    if met {
-        return Verdict::Because(w);
-    }
-    Verdict::Fine
-}
-
-impl Verdict {
-    // This verdict, or where it is fine the next.
-    pub fn then(self, next: Verdict) -> Verdict
-        ensures { verdict_of result ≡ first_nonzero (verdict_of self) (verdict_of next) }
-    {
-        match self {
-            Verdict::Fine => next,
-            Verdict::Because(w) => Verdict::Because(w),
-        }
+        Ok(done) => done.gates,
+        Err(_) => 0,
     }
 }

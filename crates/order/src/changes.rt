@@ -2,15 +2,14 @@
 ghost use Rattle.std.specs.Prelude.{List, ◌≡◌, ℕ};
 ghost use Rattle.gate.specs.Places.{Place};
 ghost use Rattle.order.specs.Answers.{reported};
-ghost use Rattle.order.specs.Changes.{Fits, answer_of, applied};
+ghost use Rattle.order.specs.Changes.{Fits, Makes, applied, done_by, made};
 
 use crate::answers::Outcome;
-use machine::{Answer, Machine, Refusal, Register};
+use machine::{Done, Machine, Refusal, Register};
 
-// Nothing; a register stored, with the gates spent and the dealer's items taken; or a value opened.
+// A register stored, with the gates spent and the dealer's items taken; or a value opened. A refused order makes none.
 #[derive(Clone, Copy)]
 pub enum Change {
-    Refused(Refusal),
     Stored {
         d: u64,
         register: Register,
@@ -24,47 +23,50 @@ pub enum Change {
 
 impl Change {
     // What the order answers.
-    pub fn answer(self) -> Answer
-        ensures { result ≡ answer_of self }
+    pub fn done(self) -> Done
+        ensures { result ≡ done_by self }
     {
         match self {
-            Change::Refused(w) => Answer::Refused(w),
             Change::Stored {
                 d: _,
                 register: _,
                 gates,
                 items: _,
-            } => Answer::Done { value: 0, gates },
-            Change::Opened { value } => Answer::Done { value, gates: 0 },
+            } => Done { value: 0, gates },
+            Change::Opened { value } => Done { value, gates: 0 },
+        }
+    }
+
+    // The record that it leaves.
+    fn made(self, m: Machine) -> Machine
+        requires { Makes m self }
+        ensures { result ≡ made self m }
+    {
+        match self {
+            Change::Stored {
+                d,
+                register,
+                gates,
+                items,
+            } => m.moved(gates, gates, items).with_register(d, register),
+            Change::Opened { value: _ } => m.moved(0, 1, 0),
         }
     }
 }
 
-// The record that a change leaves, and the answer.
-pub fn apply(m: Machine, k: Change) -> Outcome
+// The record that an order leaves, and the answer.
+pub fn apply(m: Machine, k: Result<Change, Refusal>) -> Outcome
     requires { Fits m k }
     ensures { (c : Place → List ℕ) → reported result c ≡ applied k m c }
 {
     match k {
-        Change::Refused(w) => Outcome {
-            machine: m,
-            answer: Answer::Refused(w),
+        Ok(change) => Outcome {
+            machine: change.made(m),
+            answer: Ok(change.done()),
         },
-        Change::Stored {
-            d,
-            register,
-            gates,
-            items,
-        } => {
-            let n = m.moved(gates, gates, items);
-            Outcome {
-                machine: n.with_register(d, register),
-                answer: Answer::Done { value: 0, gates },
-            }
-        }
-        Change::Opened { value } => Outcome {
-            machine: m.moved(0, 1, 0),
-            answer: Answer::Done { value, gates: 0 },
+        Err(w) => Outcome {
+            machine: m,
+            answer: Err(w),
         },
     }
 }

@@ -2,12 +2,13 @@
 ghost use Rattle.std.specs.Prelude.{◌≡◌, ◌<◌};
 ghost use Rattle.ring.specs.Rings.{modulus_of};
 ghost use Rattle.gate.specs.Places.{InRange};
-ghost use Rattle.order.specs.Attempts.{Prepares, Sources};
+ghost use Rattle.order.specs.Attempts.{Prepares};
+ghost use Rattle.order.specs.Sources.{sources_in};
 ghost use Rattle.order.specs.Tasks.{added_to, scaled_by};
 
-use crate::answers::Verdict;
+use crate::sources::Sources;
 use crate::tasks::{Prepared, Task};
-use crate::verdicts::{bits_why, less, no_ring, number_why, pair_why, ring_named};
+use crate::verdicts::{bits, number, pair};
 use gate::Sharing;
 use machine::{Machine, Order, Refusal, Register};
 use ring::Ring;
@@ -37,90 +38,72 @@ fn products(r: Ring, x: Sharing, c: u64) -> Sharing
 }
 
 // Order 2.
-pub fn add(sound: bool, d: u64, x: u64, y: u64, a: Register, b: Register) -> Prepared
-    requires { (m : Machine) × Sources m sound x a y b }
-    ensures { (m : Machine) → Sources m sound x a y b → Prepares (Order.Add d x y) m d result }
+pub fn add(s: Sources, d: u64, x: u64, y: u64) -> Result<Prepared, Refusal>
+    requires { (m : Machine) × (s ≡ sources_in m (Order.Add d x y)) }
+    ensures { (m : Machine) → s ≡ sources_in m (Order.Add d x y) → Prepares (Order.Add d x y) m d result }
 {
-    let v = pair_why(sound, d, x, y, a, b);
-    match v {
-        Verdict::Because(w) => Prepared::Because(w),
-        Verdict::Fine => {
-            let r = a.ring();
-            Prepared::Local(Register::Number(r, sums(r, a.shares(), b.shares())))
-        }
-    }
+    let (r, a, b) = pair(s, d, x, y)?;
+    Ok(Prepared::Local(Register::Number(r, sums(r, a, b))))
 }
 
 // Order 3.
-pub fn scale(sound: bool, d: u64, x: u64, c: u64, a: Register) -> Prepared
-    requires { (m : Machine) × Sources m sound x a x a }
-    ensures { (m : Machine) → Sources m sound x a x a → Prepares (Order.Scale d x c) m d result }
+pub fn scale(s: Sources, d: u64, x: u64, c: u64) -> Result<Prepared, Refusal>
+    requires { (m : Machine) × (s ≡ sources_in m (Order.Scale d x c)) }
+    ensures { (m : Machine) → s ≡ sources_in m (Order.Scale d x c) → Prepares (Order.Scale d x c) m d result }
 {
-    let v = number_why(sound, d, x, a, a.modulus() <= c, Refusal::OutOfRange);
-    match v {
-        Verdict::Because(w) => Prepared::Because(w),
-        Verdict::Fine => {
-            let r = a.ring();
-            Prepared::Local(Register::Number(r, products(r, a.shares(), c)))
-        }
+    let (r, a) = number(s, d, x)?;
+    if r.modulus() <= c {
+        return Err(Refusal::OutOfRange);
     }
+    Ok(Prepared::Local(Register::Number(r, products(r, a, c))))
 }
 
 // Order 4.
-pub fn multiply(sound: bool, d: u64, x: u64, y: u64, a: Register, b: Register) -> Prepared
-    ensures { (m : Machine) → Sources m sound x a y b → Prepares (Order.Multiply d x y) m d result }
+pub fn multiply(s: Sources, d: u64, x: u64, y: u64) -> Result<Prepared, Refusal>
+    ensures { (m : Machine) → s ≡ sources_in m (Order.Multiply d x y) → Prepares (Order.Multiply d x y) m d result }
 {
-    let v = pair_why(sound, d, x, y, a, b);
-    match v {
-        Verdict::Because(w) => Prepared::Because(w),
-        Verdict::Fine => Prepared::Gates(Task::Multiply(a.ring(), a.shares(), b.shares())),
-    }
+    let (r, a, b) = pair(s, d, x, y)?;
+    Ok(Prepared::Gates(Task::Multiply(r, a, b)))
 }
 
 // Order 5.
-pub fn decompose(sound: bool, d: u64, x: u64, l: u64, a: Register) -> Prepared
-    ensures { (m : Machine) → Sources m sound x a x a → Prepares (Order.Decompose d x l) m d result }
+pub fn decompose(s: Sources, d: u64, x: u64, l: u64) -> Result<Prepared, Refusal>
+    ensures { (m : Machine) → s ≡ sources_in m (Order.Decompose d x l) → Prepares (Order.Decompose d x l) m d result }
 {
-    let most = less(a.width(), 2);
-    let inside = (1 <= l) & (l <= most);
-    let v = number_why(sound, d, x, a, !inside, Refusal::OutOfRange);
-    match v {
-        Verdict::Because(w) => Prepared::Because(w),
-        Verdict::Fine => Prepared::Gates(Task::Decompose(a.ring(), a.shares(), l)),
+    let (r, a) = number(s, d, x)?;
+    let most = r.width() - 2;
+    if !((1 <= l) & (l <= most)) {
+        return Err(Refusal::OutOfRange);
     }
+    Ok(Prepared::Gates(Task::Decompose(r, a, l)))
 }
 
 // Order 6.
-pub fn convert(sound: bool, d: u64, x: u64, f: u64, a: Register) -> Prepared
-    ensures { (m : Machine) → Sources m sound x a x a → Prepares (Order.Convert d x f) m d result }
+pub fn convert(s: Sources, d: u64, x: u64, f: u64) -> Result<Prepared, Refusal>
+    ensures { (m : Machine) → s ≡ sources_in m (Order.Convert d x f) → Prepares (Order.Convert d x f) m d result }
 {
-    let v = number_why(sound, d, x, a, no_ring(f), Refusal::NoRing);
-    match v {
-        Verdict::Because(w) => Prepared::Because(w),
-        Verdict::Fine => Prepared::Gates(Task::Convert(a.ring(), ring_named(f), a.shares())),
-    }
+    let (r, a) = number(s, d, x)?;
+    let to = Ring::of_width(f).ok_or(Refusal::NoRing)?;
+    Ok(Prepared::Gates(Task::Convert(r, to, a)))
 }
 
 // Order 7.
-pub fn shift(sound: bool, d: u64, x: u64, s: u64, a: Register) -> Prepared
-    ensures { (m : Machine) → Sources m sound x a x a → Prepares (Order.Shift d x s) m d result }
+pub fn shift(s: Sources, d: u64, x: u64, n: u64) -> Result<Prepared, Refusal>
+    ensures { (m : Machine) → s ≡ sources_in m (Order.Shift d x n) → Prepares (Order.Shift d x n) m d result }
 {
-    let most = less(a.width(), 3);
-    let outside = !(s <= most);
-    let v = number_why(sound, d, x, a, outside, Refusal::OutOfRange);
-    match v {
-        Verdict::Because(w) => Prepared::Because(w),
-        Verdict::Fine => Prepared::Gates(Task::Shift(a.ring(), a.shares(), s)),
+    let (r, a) = number(s, d, x)?;
+    let most = r.width() - 3;
+    if most < n {
+        return Err(Refusal::OutOfRange);
     }
+    Ok(Prepared::Gates(Task::Shift(r, a, n)))
 }
 
 // Order 8.
-pub fn compose(sound: bool, d: u64, x: u64, f: u64, a: Register) -> Prepared
-    ensures { (m : Machine) → Sources m sound x a x a → Prepares (Order.Compose d x f) m d result }
+pub fn compose(s: Sources, d: u64, x: u64, f: u64) -> Result<Prepared, Refusal>
+    ensures { (m : Machine) → s ≡ sources_in m (Order.Compose d x f) → Prepares (Order.Compose d x f) m d result }
 {
-    let v = bits_why(sound, d, x, a, no_ring(f));
-    match v {
-        Verdict::Because(w) => Prepared::Because(w),
-        Verdict::Fine => Prepared::Gates(Task::Compose(ring_named(f), a.shares(), a.count())),
-    }
+    let (l, w) = bits(s, d, x)?;
+    let r = Ring::of_width(f).ok_or(Refusal::NoRing)?;
+    Ok(Prepared::Gates(Task::Compose(r, w, l)))
 }

@@ -4,7 +4,7 @@ ghost use Rattle.machine.specs.Registers.{register_of};
 ghost use Rattle.order.specs.Tasks.{Fit, cost_of, costing, kind_left};
 
 use gate::Sharing;
-use machine::{Refusal, Register};
+use machine::Register;
 use ring::Ring;
 
 // What an order with gates works on: rings, sub-shares and its own number.
@@ -17,10 +17,9 @@ pub enum Task {
     Compose(Ring, Sharing, u64),
 }
 
-// What the record alone decides of orders 2 to 8.
+// What is left to be done of an accepted order 2 to 8: a register to be stored, or gates.
 #[derive(Clone, Copy)]
 pub enum Prepared {
-    Because(Refusal),
     Local(Register),
     Gates(Task),
 }

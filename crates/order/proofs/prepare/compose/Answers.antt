@@ -1,29 +1,30 @@
-use mathlib.Core.Path.{◌≡◌, ap, sym, ◌∙◌}
+use mathlib.Core.List.{[]}
+use mathlib.Core.Path.{ap, sym, ◌∙◌}
+use Rattle.machine.specs.Checks.{no_ring}
+use Rattle.machine.specs.Registers.{kind_of}
 use Rattle.machine.specs.declared.orders.Order.TheVariants.{Compose}
-use Rattle.machine.specs.declared.registers.Machine.{Machine}
-use Rattle.order.specs.Answers.{verdict_of}
-use Rattle.order.specs.Attempts.{Sources, record_refusal}
-use Rattle.order.proofs.PrepareLaw.{compose_refusal, compose_prepares}
-use Rattle.order.proofs.StepLaw.{because}
+use Rattle.order.proofs.CheckLaw.{all_passed, met}
+use Rattle.order.proofs.PrepareLaw.{compose_one, compose_prepares, one_fine, one_refused, own_refused, parsed, source_at, unparsed}
+use Rattle.order.proofs.StepLaw.{told}
 use Rattle.order.proofs.prepare.compose.Goals as goal
 
-pub returns-in-Because : goal.returns-in-Because
-returns-in-Because c =
-    let kinds : let a = c.args in
-    (m : Machine) → Sources m a.sound a.x a.a a.x a.a → verdict_of c.bits_why-v.result ≡ record_refusal (Compose a.d a.x a.f) m =
-    λ m of. let a = c.args in
-    compose_refusal m a.d a.x a.f of c.no_ring.ensures c.bits_why-v.ensures in
-    λ m of.
-    let a = c.args in
-    because (Compose a.d a.x a.f) m a.d (kinds m of) c.in-Because.is
+pub returns-in_err-l : goal.returns-in_err-l
+returns-in_err-l c =
+    λ m from. let a = c.args in
+    told (Compose a.d a.x a.f) m _ _ c.from_residual.ensures.1 (one_refused (compose_one a.d a.x a.f) m from _ c.in_err-l.ensures.refusal)
 
-pub returns-in-Fine : goal.returns-in-Fine
-returns-in-Fine c =
-    let kinds : let a = c.args in
-    (m : Machine) → Sources m a.sound a.x a.a a.x a.a → verdict_of c.bits_why-v.result ≡ record_refusal (Compose a.d a.x a.f) m =
-    λ m of. let a = c.args in
-    compose_refusal m a.d a.x a.f of c.no_ring.ensures c.bits_why-v.ensures in
-    λ m of.
-    let a = c.args in
-    compose_prepares m a.d a.x a.f (sym (kinds m of) ∙ ap verdict_of c.in-Fine.is) of.first
-    c.ring_named.ensures c.shares.ensures c.count.ensures
+pub returns-in_err-r : goal.returns-in_err-r
+returns-in_err-r c =
+    λ m from. let a = c.args in
+    let none = unparsed c.of_width.result _ _ (sym c.ok_or.ensures.value ∙ c.in_err-r.was) in
+    told (Compose a.d a.x a.f) m _ _ c.from_residual-in_err-r.ensures.1
+    (own_refused (compose_one a.d a.x a.f) m from _ c.in_ok-l.ensures.refusal (ap kind_of c.in_ok-l.ensures.found)
+    (rw none.1 (met 5 [] (ap no_ring (sym c.of_width.ensures ∙ none.0)))))
+
+pub returns : goal.returns
+returns c =
+    λ m from. let a = c.args in
+    let some = sym c.of_width.ensures ∙ parsed c.of_width.result _ (sym c.ok_or.ensures.value ∙ c.in_ok-r.was) in
+    compose_prepares m a.d a.x a.f (source_at (compose_one a.d a.x a.f) m from c.in_ok-l.ensures.found)
+    (one_fine (compose_one a.d a.x a.f) m from c.in_ok-l.ensures.refusal (ap kind_of c.in_ok-l.ensures.found) (all_passed 5 (ap no_ring some)))
+    some

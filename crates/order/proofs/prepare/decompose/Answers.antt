@@ -1,29 +1,35 @@
-use mathlib.Core.Path.{◌≡◌, ap, sym, ◌∙◌}
+use mathlib.Core.List.{[]}
+use mathlib.Core.Path.{ap, ◌≡◌}
+use mathlib.Core.Bool.{not, true, ◌&&◌}
+use Prim.Native.Nat.{◌-◌}
+use borrow.Author.Tests.{leb-true}
+use lib.Dec.{leb}
+use Rattle.ring.specs.Rings.{width_of}
+use Rattle.machine.proofs.KindLaw.{left_true, right_true}
+use Rattle.machine.specs.Registers.{kind_of}
 use Rattle.machine.specs.declared.orders.Order.TheVariants.{Decompose}
-use Rattle.machine.specs.declared.registers.Machine.{Machine}
-use Rattle.order.specs.Answers.{verdict_of}
-use Rattle.order.specs.Attempts.{Sources, record_refusal}
-use Rattle.order.proofs.PrepareLaw.{decompose_refusal, decompose_prepares}
-use Rattle.order.proofs.StepLaw.{because}
+use Rattle.order.proofs.CheckLaw.{all_passed, met}
+use Rattle.order.proofs.PrepareLaw.{decompose_one, decompose_prepares, one_fine, one_refused, own_refused, source_at}
+use Rattle.order.proofs.StepLaw.{told}
 use Rattle.order.proofs.prepare.decompose.Goals as goal
 
-pub returns-in-Because : goal.returns-in-Because
-returns-in-Because c =
-    let kinds : let a = c.args in
-    (m : Machine) → Sources m a.sound a.x a.a a.x a.a → verdict_of c.number_why-v.result ≡ record_refusal (Decompose a.d a.x a.l)
-    m = λ m of. let a = c.args in
-    decompose_refusal m a.d a.x a.l of c.width.ensures c.less-most.ensures c.number_why-v.ensures in
-    λ m of.
-    let a = c.args in
-    because (Decompose a.d a.x a.l) m a.d (kinds m of) c.in-Because.is
+pub returns-in_err-r : goal.returns-in_err-r
+returns-in_err-r c =
+    λ m from. let a = c.args in
+    told (Decompose a.d a.x a.l) m _ _ c.from_residual.ensures.1 (one_refused (decompose_one a.d a.x a.l) m from _ c.in_err-r.ensures.refusal)
 
-pub returns-in-Fine : goal.returns-in-Fine
-returns-in-Fine c =
-    let kinds : let a = c.args in
-    (m : Machine) → Sources m a.sound a.x a.a a.x a.a → verdict_of c.number_why-v.result ≡ record_refusal (Decompose a.d a.x a.l)
-    m = λ m of. let a = c.args in
-    decompose_refusal m a.d a.x a.l of c.width.ensures c.less-most.ensures c.number_why-v.ensures in
-    λ m of.
-    let a = c.args in
-    decompose_prepares m a.d a.x a.l (sym (kinds m of) ∙ ap verdict_of c.in-Fine.is) of.first
-    c.ring.ensures c.shares.ensures
+pub returns-then-not-l-most : goal.returns-then-not-l-most
+returns-then-not-l-most c =
+    λ m from. let a = c.args in
+    own_refused (decompose_one a.d a.x a.l) m from _ c.in_ok-r.ensures.refusal (ap kind_of c.in_ok-r.ensures.found)
+    (met 7 [] (ap not (rw c.width-most.ensures at c.if-not-l-most.true)))
+
+pub returns : goal.returns
+returns c =
+    λ m from. let a = c.args in
+    let most = width_of c.in_ok-r.r - 2 in
+    let inside : leb 1 a.l && leb a.l most ≡ true = rw c.width-most.ensures at c.if-not-l-most.false in
+    decompose_prepares m a.d a.x (source_at (decompose_one a.d a.x a.l) m from c.in_ok-r.ensures.found) a.l
+    (one_fine (decompose_one a.d a.x a.l) m from c.in_ok-r.ensures.refusal (ap kind_of c.in_ok-r.ensures.found) (all_passed 7 (ap not inside)))
+    (leb-true 1 a.l (left_true (leb 1 a.l) (leb a.l most) inside))
+    (leb-true a.l most (right_true (leb 1 a.l) (leb a.l most) inside))

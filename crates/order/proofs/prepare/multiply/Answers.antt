@@ -1,29 +1,18 @@
-use mathlib.Core.Path.{◌≡◌, ap, sym, ◌∙◌}
+use mathlib.Core.Path.{refl, sym, ◌∙◌}
 use Rattle.machine.specs.declared.orders.Order.TheVariants.{Multiply}
-use Rattle.machine.specs.declared.registers.Machine.{Machine}
-use Rattle.order.specs.Answers.{verdict_of}
-use Rattle.order.specs.Attempts.{Sources, record_refusal}
-use Rattle.order.proofs.PrepareLaw.{multiply_prepares, pair_refusal}
-use Rattle.order.proofs.StepLaw.{because}
+use Rattle.order.proofs.PrepareLaw.{multiply_prepares, pair_checks, pair_left, pair_right}
+use Rattle.order.proofs.StepLaw.{because, told}
 use Rattle.order.proofs.prepare.multiply.Goals as goal
 
-pub returns-in-Because : goal.returns-in-Because
-returns-in-Because c =
-    let kinds : let a = c.args in
-    (m : Machine) → Sources m a.sound a.x a.a a.y a.b → verdict_of c.pair_why-v.result ≡ record_refusal (Multiply a.d a.x a.y) m =
-    λ m of. let a = c.args in
-    (pair_refusal m a.d a.x a.y of c.pair_why-v.ensures).1 in
-    λ m of.
-    let a = c.args in
-    because (Multiply a.d a.x a.y) m a.d (kinds m of) c.in-Because.is
+pub returns-in_err-r : goal.returns-in_err-r
+returns-in_err-r c =
+    λ m from. let a = c.args in
+    let o = Multiply a.d a.x a.y in
+    told o m _ _ c.from_residual.ensures.1 (because o m a.d (pair_checks m a.d a.x a.y from o refl refl ∙ sym c.in_err-r.ensures.refusal))
 
-pub returns-in-Fine : goal.returns-in-Fine
-returns-in-Fine c =
-    let kinds : let a = c.args in
-    (m : Machine) → Sources m a.sound a.x a.a a.y a.b → verdict_of c.pair_why-v.result ≡ record_refusal (Multiply a.d a.x a.y) m =
-    λ m of. let a = c.args in
-    (pair_refusal m a.d a.x a.y of c.pair_why-v.ensures).1 in
-    λ m of.
-    let a = c.args in
-    multiply_prepares m a.d a.x a.y of.first of.second c.ring.ensures
-    c.shares.ensures c.shares-in-Fine.ensures (sym (kinds m of) ∙ ap verdict_of c.in-Fine.is)
+pub returns : goal.returns
+returns c =
+    λ m from. let a = c.args in
+    let o = Multiply a.d a.x a.y in
+    multiply_prepares m a.d a.x (pair_left m a.x a.y from c.in_ok-r.ensures.found.0) a.y (pair_right m a.x a.y from c.in_ok-r.ensures.found.1)
+    (pair_checks m a.d a.x a.y from o refl refl ∙ sym c.in_ok-r.ensures.refusal)

@@ -1,47 +1,45 @@
-use mathlib.Core.Path.{◌≡◌, ap, sym, ◌∙◌}
-use Rattle.machine.specs.declared.orders.Order.TheVariants.{Scale}
+use mathlib.Core.Path.{ap, sym}
+use Rattle.order.proofs.PrepareLaw.{good, one_fine, one_refused, own_refused, scale_one, scale_prepares, source_at}
+use Rattle.order.proofs.StepLaw.{told}
+use mathlib.Core.List.{[]}
+use Rattle.machine.specs.Registers.{kind_of}
+use borrow.Author.Tests.{le-leb, lt-leb}
 use Rattle.machine.specs.declared.registers.Machine.{Machine}
-use Rattle.order.specs.Answers.{verdict_of}
-use Rattle.order.specs.Attempts.{Sources, record_refusal}
-use Rattle.order.proofs.PrepareLaw.{scale_factor, scale_refusal, scale_prepares, scale_source}
-use Rattle.order.proofs.StepLaw.{because}
+use Rattle.order.specs.Attempts.{record_refusal}
+use Rattle.order.specs.Sources.{sources_in}
+use Rattle.order.proofs.CheckLaw.{all_passed, met}
+use Rattle.order.proofs.SoundLaw.{number_in}
+use mathlib.Core.Path.{◌≡◌}
+use Rattle.machine.specs.declared.orders.Order.TheVariants.{Scale}
 use Rattle.order.proofs.prepare.scale.Goals as goal
 
-pub returns-in-Because : goal.returns-in-Because
-returns-in-Because c =
-    let kinds : let a = c.args in
-    (m : Machine) → Sources m a.sound a.x a.a a.x a.a → verdict_of c.number_why-v.result ≡ record_refusal (Scale a.d a.x a.c) m =
-    λ m of. let a = c.args in
-    scale_refusal m a.d a.x a.c of c.modulus.ensures c.number_why-v.ensures in
-    λ m of.
+pub returns-in_err-r : goal.returns-in_err-r
+returns-in_err-r c =
+    λ m from. let a = c.args in
+    told (Scale a.d a.x a.c) m _ _ c.from_residual.ensures.1 (one_refused (scale_one a.d a.x a.c) m from _ c.in_err-r.ensures.refusal)
+
+pub returns-then-modulus-c : goal.returns-then-modulus-c
+returns-then-modulus-c c =
+    λ m from. let a = c.args in
+    own_refused (scale_one a.d a.x a.c) m from _ c.in_ok-r.ensures.refusal (ap kind_of c.in_ok-r.ensures.found)
+    (met 7 [] (le-leb _ a.c (rw c.modulus.ensures at c.if-modulus-c.true)))
+
+accepted : (c : goal.Else-modulus-c) (m : Machine) → c.args.s ≡ sources_in m (Scale c.args.d c.args.x c.args.c)
+    → record_refusal (Scale c.args.d c.args.x c.args.c) m ≡ 0
+accepted c m from =
     let a = c.args in
-    because (Scale a.d a.x a.c) m a.d (kinds m of) c.in-Because.is
+    one_fine (scale_one a.d a.x a.c) m from c.in_ok-r.ensures.refusal (ap kind_of c.in_ok-r.ensures.found)
+    (all_passed 7 (lt-leb _ a.c (rw c.modulus.ensures at c.if-modulus-c.false)))
 
 -- some record has these sources
-pub products-requires : goal.products-requires
-products-requires c =
-    let kinds : let a = c.args in
-    (m : Machine) → Sources m a.sound a.x a.a a.x a.a → verdict_of c.number_why-v.result ≡ record_refusal (Scale a.d a.x a.c) m =
-    λ m of. let a = c.args in
-    scale_refusal m a.d a.x a.c of c.modulus.ensures c.number_why-v.ensures in
-    let fine : let a = c.args in
-    (m : Machine) → Sources m a.sound a.x a.a a.x a.a → record_refusal (Scale a.d a.x a.c) m ≡ 0 = λ m of. sym (kinds m of) ∙ ap
-    verdict_of c.in-Fine.is in
+pub products-requires-clause-source : goal.products-requires-clause-source
+products-requires-clause-source c =
     let a = c.args in
-    record {
-      source = scale_source c.requires.0 a.d a.x a.c (fine c.requires.0 c.requires.1) c.requires.1.first c.ring-r.ensures c.shares.ensures;
-      factor = scale_factor c.requires.0 a.d a.x a.c (fine c.requires.0 c.requires.1) c.requires.1.first c.ring-r.ensures c.shares.ensures;
-    }
+    let m = c.requires.0 in
+    let from = c.requires.1 in
+    number_in m (good m (Scale a.d a.x a.c) (accepted c m from)) a.x (source_at (scale_one a.d a.x a.c) m from c.in_ok-r.ensures.found)
 
-pub returns-in-Fine : goal.returns-in-Fine
-returns-in-Fine c =
-    let kinds : let a = c.args in
-    (m : Machine) → Sources m a.sound a.x a.a a.x a.a → verdict_of c.number_why-v.result ≡ record_refusal (Scale a.d a.x a.c) m =
-    λ m of. let a = c.args in
-    scale_refusal m a.d a.x a.c of c.modulus.ensures c.number_why-v.ensures in
-    let fine : let a = c.args in
-    (m : Machine) → Sources m a.sound a.x a.a a.x a.a → record_refusal (Scale a.d a.x a.c) m ≡ 0 = λ m of. sym (kinds m of) ∙ ap
-    verdict_of c.in-Fine.is in
-    λ m of.
-    let a = c.args in
-    scale_prepares m a.d a.x a.c (fine m of) of.first c.ring-r.ensures c.shares.ensures c.products.ensures
+pub returns : goal.returns
+returns c =
+    λ m from. let a = c.args in
+    scale_prepares m a.d a.x (source_at (scale_one a.d a.x a.c) m from c.in_ok-r.ensures.found) a.c (accepted c.before m from) c.products.ensures

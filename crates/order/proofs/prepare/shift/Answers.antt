@@ -1,29 +1,32 @@
-use mathlib.Core.Path.{◌≡◌, ap, sym, ◌∙◌}
+use mathlib.Core.List.{[]}
+use mathlib.Core.Path.{ap}
+use mathlib.Core.Bool.{not}
+use Prim.Native.Nat.{◌-◌, ◌≤◌}
+use borrow.Author.Tests.{le-leb, lt-leb}
+use Rattle.ring.specs.Rings.{width_of}
+use Rattle.machine.specs.Registers.{kind_of}
 use Rattle.machine.specs.declared.orders.Order.TheVariants.{Shift}
-use Rattle.machine.specs.declared.registers.Machine.{Machine}
-use Rattle.order.specs.Answers.{verdict_of}
-use Rattle.order.specs.Attempts.{Sources, record_refusal}
-use Rattle.order.proofs.PrepareLaw.{shift_refusal, shift_prepares}
-use Rattle.order.proofs.StepLaw.{because}
+use Rattle.order.proofs.CheckLaw.{all_passed, met}
+use Rattle.order.proofs.PrepareLaw.{one_fine, one_refused, own_refused, shift_one, shift_prepares, source_at}
+use Rattle.order.proofs.StepLaw.{told}
 use Rattle.order.proofs.prepare.shift.Goals as goal
 
-pub returns-in-Because : goal.returns-in-Because
-returns-in-Because c =
-    let kinds : let a = c.args in
-    (m : Machine) → Sources m a.sound a.x a.a a.x a.a → verdict_of c.number_why-v.result ≡ record_refusal (Shift a.d a.x a.s) m =
-    λ m of. let a = c.args in
-    shift_refusal m a.d a.x a.s of c.width.ensures c.less-most.ensures c.number_why-v.ensures in
-    λ m of.
-    let a = c.args in
-    because (Shift a.d a.x a.s) m a.d (kinds m of) c.in-Because.is
+pub returns-in_err-r : goal.returns-in_err-r
+returns-in_err-r c =
+    λ m from. let a = c.args in
+    told (Shift a.d a.x a.n) m _ _ c.from_residual.ensures.1 (one_refused (shift_one a.d a.x a.n) m from _ c.in_err-r.ensures.refusal)
 
-pub returns-in-Fine : goal.returns-in-Fine
-returns-in-Fine c =
-    let kinds : let a = c.args in
-    (m : Machine) → Sources m a.sound a.x a.a a.x a.a → verdict_of c.number_why-v.result ≡ record_refusal (Shift a.d a.x a.s) m =
-    λ m of. let a = c.args in
-    shift_refusal m a.d a.x a.s of c.width.ensures c.less-most.ensures c.number_why-v.ensures in
-    λ m of.
-    let a = c.args in
-    shift_prepares m a.d a.x a.s (sym (kinds m of) ∙ ap verdict_of c.in-Fine.is) of.first
-    c.ring.ensures c.shares.ensures
+pub returns-then-most-n : goal.returns-then-most-n
+returns-then-most-n c =
+    λ m from. let a = c.args in
+    own_refused (shift_one a.d a.x a.n) m from _ c.in_ok-r.ensures.refusal (ap kind_of c.in_ok-r.ensures.found)
+    (met 7 [] (ap not (lt-leb a.n (width_of c.in_ok-r.r - 3) (rw c.width-most.ensures at c.if-most-n.true))))
+
+pub returns : goal.returns
+returns c =
+    λ m from. let a = c.args in
+    let most : a.n ≤ width_of c.in_ok-r.r - 3 = rw c.width-most.ensures at c.if-most-n.false in
+    shift_prepares m a.d a.x (source_at (shift_one a.d a.x a.n) m from c.in_ok-r.ensures.found) a.n
+    (one_fine (shift_one a.d a.x a.n) m from c.in_ok-r.ensures.refusal (ap kind_of c.in_ok-r.ensures.found)
+    (all_passed 7 (ap not (le-leb a.n (width_of c.in_ok-r.r - 3) most))))
+    most
