@@ -1,7 +1,5 @@
 -- From verdicts, items and lent runs to what 01 says of a task.
 use Rattle.std.specs.Prelude.{Result, Ok, Err}
-use Rattle.std.specs.Result.{IsErrAnd}
-use Rattle.std.proofs.lemmas.Result.{err_from_is_err_and}
 use Prim.Native.Nat.{ℕ, ◌+◌, ◌-◌}
 use mathlib.Core.Bool.{Bool, false, not, true}
 use mathlib.Core.List.{List, [], ◌++◌, append-nil}
@@ -21,7 +19,7 @@ use Rattle.circuit.proofs.LentLaw.{part_is, parts_from, put_back}
 use Rattle.circuit.proofs.RunLaw.{length-sent}
 use Rattle.machine.specs.Checks.{any_bad, first_met, gate_checks, uneven}
 use Rattle.machine.specs.Registers.{register_of}
-use Rattle.machine.specs.Step.{Outcome, written}
+use Rattle.machine.specs.Step.{written}
 use Rattle.machine.specs.declared.answers.Refusal.{Refusal}
 use Rattle.machine.specs.declared.answers.Refusal.TheVariants.{BadItem}
 use Rattle.machine.specs.declared.registers.Machine.{Machine}
@@ -51,11 +49,6 @@ module _ (m : Machine) (d : ℕ) {t : Prepared} where
 
   pub ready_gates : {g : Task} → t ≡ Gates g → Ready m d (Ok t) → Seated m d × Fit g
   ready_gates e h = rw e at h
-
--- a refusal that is passed on
-pub passed_change : (m : Machine) {c : Place → List ℕ} {o : Outcome} (r : Result Change Refusal) (w : Refusal) → IsErrAnd r (λ e. e ≡ w)
-    → Changes m (Err w) c o → Changes m r c o
-passed_change m r w is h = let p = err_from_is_err_and r is in rw (p.1, p.2) h
 
 -- three runs that are even
 even : (a b c : ℕ) → uneven (three a b c) ≡ false → (a ≡ b) × (b ≡ c)

@@ -6,7 +6,8 @@ use Rattle.machine.specs.Checks.{Lengths, first_met, gate_checks}
 use Rattle.order.specs.Attempts.{attempted}
 use Rattle.order.specs.Sources.{public_at}
 use Rattle.order.proofs.CostLaw.{costs}
-use Rattle.attempt.proofs.AttemptLaw.{enough, long_enough, passed_change, short}
+use Rattle.order.proofs.StepLaw.{passed_change}
+use Rattle.attempt.proofs.AttemptLaw.{enough, long_enough, short}
 use Rattle.attempt.proofs.attempts.perform.Goals as goal
 
 pub returns-in_err-room : goal.returns-in_err-room
