@@ -8,7 +8,6 @@ use Rattle.circuit.specs.Sharings.{zeros}
 use Rattle.machine.specs.declared.registers.Machine.{Machine}
 use Rattle.machine.specs.declared.registers.Register.{Register}
 use Rattle.machine.specs.declared.registers.Register.TheVariants.{Bits, Empty, Number}
-use Rattle.machine.specs.declared.registers.Slot.{Slot}
 
 -- what is public of a register: "A register is empty, a number of a ring, or bits"
 pub data Kind : Type 0 where
@@ -51,16 +50,13 @@ count_at (number r) = 0
 count_at (bits l) = l
 
 -- register k, and the record with another register there
-abbrev pub slot : Register → Slot
-slot r = record { reg = r }
-
 unfoldable pub register_at : Machine → ℕ → Register
-register_at m k = (get_or m.slots k (slot Empty)).reg
+register_at m k = get_or m.slots k Empty
 
 unfoldable pub with_register : Machine → ℕ → Register → Machine
 with_register m d r =
     record {
-      slots = set m.slots d (slot r);
+      slots = set m.slots d r;
       masks_at = m.masks_at;
       channels_at = m.channels_at;
       dealer_at = m.dealer_at;
@@ -69,7 +65,7 @@ with_register m d r =
 -- "The empty machine has empty registers and zero positions"
 unfoldable pub empty_machine : Machine
 empty_machine =
-    record { slots = replicate 16 (slot Empty); masks_at = 0; channels_at = 0; dealer_at = 0 }
+    record { slots = replicate 16 Empty; masks_at = 0; channels_at = 0; dealer_at = 0 }
 
 -- "each sub-share is in range"
 abbrev pub shares_below : ℕ → Sharing → Bool
@@ -81,9 +77,9 @@ sound_register Empty = true
 sound_register (Number r x) = shares_below (modulus_of r) x
 sound_register (Bits l x) = leb 1 l && (leb l 59 && shares_below (2 ^ l) x)
 
-unfoldable pub sound_slots : List Slot → Bool
+unfoldable pub sound_slots : List Register → Bool
 sound_slots [] = true
-sound_slots (s ∷ ss) = sound_register s.reg && sound_slots ss
+sound_slots (r ∷ rs) = sound_register r && sound_slots rs
 
 -- "each position is at most 1,000,000"
 abbrev pub million : ℕ
@@ -104,7 +100,7 @@ pub record Public : Type 0 where
 abbrev pub public_of : Machine → Public
 public_of m =
     record {
-      kinds = map (λ (s : Slot). kind_of s.reg) m.slots;
+      kinds = map kind_of m.slots;
       masks_at = m.masks_at;
       channels_at = m.channels_at;
       dealer_at = m.dealer_at;

@@ -1,77 +1,17 @@
-// What is public of a register, its sub-shares and its value.
+// Whether a register is empty, its sub-shares and its value.
 ghost use Rattle.std.specs.Prelude.{true, ◌≡◌};
-ghost use Rattle.ring.specs.Rings.{modulus};
-ghost use Rattle.machine.specs.Checks.{is_bits, is_empty};
-ghost use Rattle.machine.specs.Registers.{count_at, kind_of, ring_at, shares_of, sound_register, width_at};
+ghost use Rattle.machine.specs.Checks.{is_empty};
+ghost use Rattle.machine.specs.Registers.{kind_of, shares_of, sound_register};
 ghost use Rattle.machine.specs.Step.{value_of};
 
 use crate::registers::Register;
 use gate::Sharing;
-use ring::Ring;
 
 impl Register {
     pub fn is_empty(self) -> bool
         ensures { result ≡ is_empty (kind_of self) }
     {
-        match self {
-            Register::Empty => true,
-            Register::Number(_, _) => false,
-            Register::Bits(_, _) => false,
-        }
-    }
-
-    pub fn is_bits(self) -> bool
-        ensures { result ≡ is_bits (kind_of self) }
-    {
-        match self {
-            Register::Empty => false,
-            Register::Number(_, _) => false,
-            Register::Bits(_, _) => true,
-        }
-    }
-
-    // The ring of a number, else R13.
-    pub fn ring(self) -> Ring
-        ensures { result ≡ ring_at (kind_of self) }
-    {
-        match self {
-            Register::Empty => Ring::R13,
-            Register::Number(r, _) => r,
-            Register::Bits(_, _) => Ring::R13,
-        }
-    }
-
-    // e of a number, else 0.
-    pub fn width(self) -> u64
-        ensures { result ≡ width_at (kind_of self) }
-    {
-        match self {
-            Register::Empty => 0,
-            Register::Number(r, _) => r.width(),
-            Register::Bits(_, _) => 0,
-        }
-    }
-
-    // p of a number, else 0.
-    pub fn modulus(self) -> u64
-        ensures { result ≡ modulus (width_at (kind_of self)) }
-    {
-        match self {
-            Register::Empty => 0,
-            Register::Number(r, _) => r.modulus(),
-            Register::Bits(_, _) => 0,
-        }
-    }
-
-    // l of bits, else 0.
-    pub fn count(self) -> u64
-        ensures { result ≡ count_at (kind_of self) }
-    {
-        match self {
-            Register::Empty => 0,
-            Register::Number(_, _) => 0,
-            Register::Bits(l, _) => l,
-        }
+        matches!(self, Register::Empty)
     }
 
     // The sub-shares, zeros where there are none.
@@ -84,8 +24,7 @@ impl Register {
                 s1: 0,
                 s2: 0,
             },
-            Register::Number(_, x) => x,
-            Register::Bits(_, x) => x,
+            Register::Number(_, x) | Register::Bits(_, x) => x,
         }
     }
 

@@ -18,6 +18,7 @@ pub enum Order {
 
 impl Order {
     // The order of a kind and its three fields.
+    #[tactic(auto, unfolding(crate::specs::Orders::of_kind))]
     pub fn of_kind(kind: u64, a: u64, b: u64, c: u64) -> Option<Order>
         ensures { result ≡ of_kind kind a b c }
     {

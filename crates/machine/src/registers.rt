@@ -14,20 +14,17 @@ pub enum Register {
     Bits(u64, Sharing),
 }
 
-// A place for a register in the record's array.
-#[derive(Clone, Copy)]
-pub struct Slot {
-    pub reg: Register,
-}
-
 // 01: "The machine record has 16 registers (0 to 15) and three positions: strand, wire, dealer".
 #[derive(Clone, Copy)]
 pub struct Machine {
-    pub slots: [Slot; 16],
+    pub slots: [Register; REGISTERS],
     pub masks_at: u64,
     pub channels_at: u64,
     pub dealer_at: u64,
 }
+
+// 01: "16 registers (0 to 15)".
+pub const REGISTERS: usize = 16;
 
 // 01: "each position is at most 1,000,000", and so is each lent run's length.
 pub const MILLION: u64 = 1_000_000;
@@ -37,6 +34,7 @@ const MOST_BITS: u64 = 59;
 
 impl Register {
     // Each sub-share in range, and 1 to 59 bits.
+    #[tactic(auto, unfolding(crate::specs::Registers::sound_register))]
     pub fn is_sound(self) -> bool
         ensures { result ≡ sound_register self }
     {
@@ -53,27 +51,21 @@ impl Machine {
     pub fn is_sound(self) -> bool
         ensures { result ≡ sound self }
     {
-        let mut i = 0;
-        while i < 16 {
-            let s = self.slots[i];
-            let r = s.reg;
+        for r in self.slots {
             if !r.is_sound() {
                 return false;
             }
-            i += 1;
         }
         (self.masks_at <= MILLION) & ((self.channels_at <= MILLION) & (self.dealer_at <= MILLION))
     }
 
     // Empty registers, zero positions.
+    #[tactic(auto, unfolding(crate::specs::Registers::empty_machine))]
     pub fn empty() -> Machine
         ensures { result ≡ empty_machine }
     {
-        let none = Slot {
-            reg: Register::Empty,
-        };
         Machine {
-            slots: [none; 16],
+            slots: [Register::Empty; REGISTERS],
             masks_at: 0,
             channels_at: 0,
             dealer_at: 0,
@@ -81,26 +73,25 @@ impl Machine {
     }
 
     // Register k, empty past the last.
+    #[tactic(auto, unfolding(crate::specs::Registers::register_at))]
     pub fn register(self, k: u64) -> Register
         ensures { result ≡ register_at self k }
     {
-        if 15 < k {
-            return Register::Empty;
-        }
-        let i = k as usize;
-        let s = self.slots[i];
-        s.reg
+        self.slots
+            .get(k as usize)
+            .copied()
+            .unwrap_or(Register::Empty)
     }
 
     // The record with another register d.
+    #[tactic(auto, unfolding(crate::specs::Registers::with_register))]
     pub fn with_register(self, d: u64, r: Register) -> Machine
         requires { d < 16 }
         ensures { result ≡ with_register self d r }
     {
-        let i = d as usize;
-        let mut n = self;
-        n.slots[i] = Slot { reg: r };
-        n
+        let mut changed = self;
+        changed.slots[d as usize] = r;
+        changed
     }
 
     // The record with positions that have risen.
@@ -110,13 +101,11 @@ impl Machine {
         requires dealer { self.dealer_at + items < 2 ^ 64 }
         ensures { result ≡ moved self gates words items }
     {
-        let s = self.slots;
-        Machine {
-            slots: s,
-            masks_at: self.masks_at + gates,
-            channels_at: self.channels_at + words,
-            dealer_at: self.dealer_at + items,
-        }
+        let mut risen = self;
+        risen.masks_at += gates;
+        risen.channels_at += words;
+        risen.dealer_at += items;
+        risen
     }
 }
 
@@ -124,13 +113,7 @@ impl Machine {
 fn in_range(m: u64, x: Sharing) -> bool
     ensures { result ≡ shares_below m x }
 {
-    if m <= x.s0 {
-        return false;
-    }
-    if m <= x.s1 {
-        return false;
-    }
-    x.s2 < m
+    (x.s0 < m) & ((x.s1 < m) & (x.s2 < m))
 }
 
 // 1 to 59 bits, each word below 2^l.

@@ -1,29 +1,15 @@
 -- Products, one index at a time.
 use Rattle.std.specs.Prelude.{Some, None, Option}
-use Prim.Native.Nat.{ℕ, ◌+◌, ◌*◌, ◌%◌, ◌≤◌, ◌<◌}
-use mathlib.Core.Bool.{Bool, and-eq-true_iff, false, true}
-use mathlib.Core.Path.{◌≡◌, ◌∙◌, sym}
+use Prim.Native.Nat.{ℕ, ◌+◌, ◌≤◌, ◌<◌}
+use mathlib.Core.Bool.{Bool, false, true}
+use mathlib.Core.Path.{◌≡◌}
 use mathlib.Core.List.{List, ◌++◌, append_assoc, append-nil}
 use native.Mathlib.Numerals.{add-one}
-use borrow.Author.Tests.{eqb-true, le-ltb, lt-ltb}
 use lib.ListN.{drop, drop_of_length-le, get_or, length, set, take}
 use lib.Seq.{drop-cons, take_all, take-suc-set}
 use Rattle.ring.specs.declared.rings.Ring.{Ring}
 use Rattle.ring.specs.Rings.{modulus_of, ring_of}
 use Rattle.timing.specs.Products.{alike, multiplied, outcome, product, products}
-
-module _ (p x y : ℕ) where
-  pub in_range : {z : ℕ} → x < p → y < p → z ≡ x * y % p → z ≡ product p x y
-  unfolding product
-  in_range hx hy e = simp (lt-ltb x p hx, lt-ltb y p hy, e)
-
-  pub left_out : p ≤ x → 0 ≡ product p x y
-  unfolding product
-  left_out h = simp (le-ltb x p h)
-
-  pub right_out : x < p → p ≤ y → 0 ≡ product p x y
-  unfolding product
-  right_out hx hy = simp (lt-ltb x p hx, le-ltb y p hy)
 
 module _ (p : ℕ) (xs ys zs : List ℕ) (i : ℕ) where
   pub one_more : {z : ℕ} → i < length xs → i < length ys → i < length zs → z ≡ product p (get_or xs i 0) (get_or ys i 0)
@@ -49,6 +35,3 @@ module _ (width : ℕ) (xs ys zs : List ℕ) {found : Option Ring} (is : found �
         → outcome (length ws) ws ≡ multiplied width xs ys zs
     unfolding multiplied
     filled ws said same are = rw (← is, named, ← test, said, same, are)
-
-pub lengths-alike : (a b n : ℕ) {fit : Bool} → fit ≡ alike a b n → fit ≡ true → (a ≡ n) × (b ≡ n)
-lengths-alike a b n is said = let halves = (and-eq-true_iff _ _).0 (sym is ∙ said) in (eqb-true _ _ halves.0, eqb-true _ _ halves.1)

@@ -23,6 +23,7 @@ fn triple(ws: &[u64], at: usize) -> Sharing
 }
 
 // Whether each word of s is below p.
+#[tactic(auto, unfolding(crate::specs::Chains::in_range))]
 fn in_range(p: u64, s: Sharing) -> bool
     ensures { result ≡ in_range p s }
 {
@@ -30,6 +31,7 @@ fn in_range(p: u64, s: Sharing) -> bool
 }
 
 // Whether the lengths fit: three words of x and of y, three items a gate.
+#[tactic(auto, unfolding(crate::specs::Chains::shaped))]
 fn lengths_fit(x: usize, y: usize, items: usize, n0: usize, n1: usize, n2: usize) -> bool
     ensures { result ≡ shaped x y items n0 n1 n2 }
 {
@@ -54,16 +56,14 @@ fn run_chain(
     ensures { Ran (chain p y items.now (length c0.old) 0 x) result (at_entry_mut c0 c1 c2) (at_exit c0 c1 c2) }
 {
     let mut z = x;
-    let mut i = 0;
-    while i < c0.len() {
+    for i in 0..c0.len() {
         let t = triple(items, 3 * i);
         if !in_range(p, t) {
             return i;
         }
         z = ring_gate(e, p, z, y, t, &mut c0[i..], &mut c1[i..], &mut c2[i..]);
-        i += 1;
     }
-    i
+    c0.len()
 }
 
 // The chain from x, where x and y are in range.

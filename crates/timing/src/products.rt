@@ -14,14 +14,13 @@ pub fn same_lengths(a: usize, b: usize, n: usize) -> bool
 }
 
 // x × y modulo p = 2^e - 1, or 0 where one is out of range.
+#[tactic(auto, unfolding(crate::specs::Products::product))]
 fn checked_product(e: u64, p: u64, x: u64, y: u64) -> u64
     requires sized { Sized e p }
     ensures { result ≡ product p x y }
 {
-    if x < p {
-        if y < p {
-            return mul_mod(e, p, x, y);
-        }
+    if (x < p) & (y < p) {
+        return mul_mod(e, p, x, y);
     }
     0
 }
@@ -34,10 +33,8 @@ fn multiply_all(r: Ring, xs: &[u64], ys: &[u64], zs: &mut [u64])
 {
     let e = r.width();
     let p = r.modulus();
-    let mut i = 0;
-    while i < zs.len() {
+    for i in 0..zs.len() {
         zs[i] = checked_product(e, p, xs[i], ys[i]);
-        i += 1;
     }
 }
 

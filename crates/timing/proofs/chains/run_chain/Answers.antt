@@ -1,6 +1,6 @@
 -- Invariant: gate i is reached.
 use Prim.Native.Nat.{◌-◌}
-use mathlib.Core.Path.{◌∙◌, refl}
+use mathlib.Core.Path.{◌≡◌, ◌∙◌, refl}
 use native.Mathlib.Omega.{arith}
 use borrow.Rule.Slice.PartMut.{mid_len, same_len_mid}
 use lib.ListN.{length}
@@ -8,12 +8,12 @@ use Rattle.timing.proofs.ChainLaw.{at-start, full, range_of, stopped, test_of, w
 use Rattle.timing.proofs.chains.run_chain.Goals as goal
 
 pub loop-i-init : goal.loop-i-init
-loop-i-init c = (refl, refl, refl, omega arith, c.requires.left, at-start _ _ _ _ _)
+loop-i-init c = (refl, refl, refl, c.requires.left, at-start _ _ _ _ _)
 
 -- an item out of range ends the chain
 pub returns-then-not-in_range : goal.returns-then-not-in_range
 returns-then-not-in_range c =
-    stopped _ _ _ _ _ c.loop-i.invariant.5 (omega arith) c.triple-t.ensures
+    stopped _ _ _ _ _ c.loop-i.invariant.4 (omega arith) c.triple-t.ensures
     (test_of _ refl c.in_range.ensures (c.if-not-in_range.true))
 
 pub ring_gate-z-requires : goal.ring_gate-z-requires
@@ -23,15 +23,11 @@ ring_gate-z-requires c =
     let room₂ = mid_len c.loop-i.i (length c.loop-i.c2) c.loop-i.c2 (omega arith) in
     let fits = test_of _ refl c.in_range.ensures (c.if-not-in_range.false) in record {
       sized = c.requires.sized;
-      left = c.loop-i.invariant.4;
+      left = c.loop-i.invariant.3;
       right = c.requires.right;
       items = range_of fits;
       room = record { zero = omega arith; one = omega arith; two = omega arith };
     }
-
-pub overflow_add-i : goal.overflow_add-i
-overflow_add-i c =
-    omega (arith, c.well_formed)
 
 pub loop-i-preserved : goal.loop-i-preserved
 loop-i-preserved c =
@@ -40,9 +36,8 @@ loop-i-preserved c =
       same_len_mid i (length c.loop-i.c0 - i) c.loop-i.c0 c.ring_gate-z.new.c0 c.ring_gate-z.auto.c0 ∙ inv.0,
       same_len_mid i (length c.loop-i.c1 - i) c.loop-i.c1 c.ring_gate-z.new.c1 c.ring_gate-z.auto.c1 ∙ inv.1,
       same_len_mid i (length c.loop-i.c2 - i) c.loop-i.c2 c.ring_gate-z.new.c2 c.ring_gate-z.auto.c2 ∙ inv.2,
-      omega (arith, c.loop-i-test.true, inv.0),
       c.ring_gate-z.ensures.below,
-      went_on _ _ _ _ _ inv.5 (omega (arith, c.loop-i-test.true, inv.0)) c.requires.lengths.one c.requires.lengths.two
+      went_on _ _ _ _ _ inv.4 (omega (arith, c.loop-i-test.true, inv.0)) c.requires.lengths.one c.requires.lengths.two
           inv.0 inv.1 inv.2
           c.triple-t.ensures
           (test_of _ refl c.in_range.ensures (c.if-not-in_range.false))
@@ -51,4 +46,6 @@ loop-i-preserved c =
     )
 
 pub returns : goal.returns
-returns c = full _ _ _ _ _ c.loop-i.invariant.5 (omega arith)
+returns c =
+    let all : c.loop-i.i ≡ length c.loop-i.c0 = omega arith in
+    rw (← all) (full _ _ _ _ _ c.loop-i.invariant.4 (omega arith))
