@@ -31,12 +31,12 @@ use Rattle.line.proofs.FieldLaw.{
   unreadable,
 }
 
--- three places, of which the numbers of the ended fields take the first
+-- three places: the numbers of the ended fields, the newest first
 abbrev stored : List ℕ → List ℕ
 stored [] = 0 ∷ 0 ∷ 0 ∷ []
 stored (a ∷ []) = a ∷ 0 ∷ 0 ∷ []
-stored (a ∷ b ∷ []) = a ∷ b ∷ 0 ∷ []
-stored (a ∷ b ∷ c ∷ ns) = a ∷ b ∷ c ∷ []
+stored (a ∷ b ∷ []) = b ∷ a ∷ 0 ∷ []
+stored (a ∷ b ∷ c ∷ ns) = c ∷ b ∷ a ∷ []
 
 -- the fields with the numbers of some, and part of the next
 abbrev fields : List ℕ → List ℕ → Fields

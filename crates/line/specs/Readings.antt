@@ -1,5 +1,5 @@
 -- What the bytes of a line so far come to, one byte after the other.
-use Rattle.std.specs.Prelude.{ℕ, ◌+◌, ◌-◌, ◌*◌, ◌^◌, cond, false, true, ◌&&◌, List, [], ◌∷◌, eqb, ltb, replicate, set, slice_index, Some, None, Option}
+use Rattle.std.specs.Prelude.{ℕ, ◌+◌, ◌-◌, ◌*◌, ◌^◌, cond, false, true, ◌&&◌, List, [], ◌∷◌, eqb, ltb, replicate, slice_index, take, Some, None, Option}
 use Rattle.std.specs.Option.{option_and_then}
 use Rattle.line.specs.Lines.{is_digit, with_one, with_three}
 use Rattle.line.specs.declared.commands.Command.{Command}
@@ -7,7 +7,7 @@ use Rattle.line.specs.declared.commands.Command.TheVariants.{Unreadable}
 use Rattle.line.specs.declared.readings.Fields.{Fields}
 use Rattle.line.specs.declared.readings.Reading.{Reading}
 
--- fields that a comma ended, and no digit of the next
+-- fields that a comma ended, the newest first, and no digit of the next
 abbrev pub next_field : (ended : List ℕ) (commas : ℕ) → Fields
 next_field e n = record { ended = e; commas = n; digits = 0; value = 0 }
 
@@ -21,7 +21,7 @@ started = record { fields = Some no_fields; seen = false }
 -- a comma: three fields are kept, and no line has more than four
 unfoldable pub comma_on : Fields → Option Fields
 comma_on f =
-    cond (ltb 0 f.digits && ltb f.commas 3) (Some (next_field (set f.ended f.commas f.value) (f.commas + 1))) None
+    cond (ltb 0 f.digits && ltb f.commas 3) (Some (next_field (take 3 (f.value ∷ f.ended)) (f.commas + 1))) None
 
 -- one digit more in the current field
 abbrev pub grown : Fields → ℕ → Fields
@@ -53,7 +53,7 @@ unfoldable pub said_by : Fields → Command
 said_by f =
     cond (eqb f.digits 0) Unreadable
     (cond (eqb f.commas 1) (with_one (slice_index f.ended 0) f.value)
-    (cond (eqb f.commas 3) (with_three (slice_index f.ended 0) (slice_index f.ended 1) (slice_index f.ended 2) f.value) Unreadable))
+    (cond (eqb f.commas 3) (with_three (slice_index f.ended 2) (slice_index f.ended 1) (slice_index f.ended 0) f.value) Unreadable))
 
 -- what a line of these bytes says
 abbrev pub said_if : Option Fields → Command

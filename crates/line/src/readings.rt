@@ -5,9 +5,8 @@ ghost use Rattle.line.specs.Readings.{comma_on, command_in, digit_on, fields_on,
 
 use crate::commands::{Command, with_one, with_three};
 
-// The fields of a line: those that a comma ended, of which three are kept, and the digits of the
-// current one with their value. A length by itself, since the kit's ArrayVec is not copied as a
-// job's progress is.
+// The fields of a line: the last three that a comma ended, the newest first, so that each has a
+// fixed place and a register; and the digits of the current one with their value.
 #[derive(Clone, Copy)]
 pub struct Fields {
     pub ended: [u64; 3],
@@ -54,10 +53,9 @@ impl Fields {
         if self.digits == 0 || self.ended.len() <= self.commas {
             return None;
         }
-        let mut ended = self.ended;
-        ended[self.commas] = self.value;
+        let [third, second, _] = self.ended;
         Some(Fields {
-            ended,
+            ended: [self.value, third, second],
             commas: self.commas + 1,
             digits: 0,
             value: 0,
@@ -97,12 +95,12 @@ impl Fields {
     fn command(self) -> Command
         ensures { result ≡ said_by self }
     {
-        let [first, second, third] = self.ended;
+        let [third, second, first] = self.ended;
         if self.digits == 0 {
             return Command::Unreadable;
         }
         match self.commas {
-            1 => with_one(first, self.value),
+            1 => with_one(third, self.value),
             3 => with_three(first, second, third, self.value),
             _ => Command::Unreadable,
         }
