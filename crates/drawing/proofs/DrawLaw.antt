@@ -13,7 +13,7 @@ use Rattle.drawing.specs.Draws.{Drew, drawn, drawn_by}
 use Rattle.drawing.specs.Lines.{lines_of, per_line}
 use Rattle.drawing.specs.Raws.{raw_words}
 use Rattle.drawing.specs.declared.draws.Drawn.{Drawn}
-use Rattle.drawing.specs.declared.lines.Kind.{Kind}
+use Rattle.drawing.specs.declared.kinds.Kind.{Kind}
 
 pub run_is : {o : Outcome} (p : Prepared) {run : List ℕ} → outcome p run ≡ o → run ≡ o.run
 run_is p is = ap (λ (u : Outcome). u.run) is

@@ -3,7 +3,7 @@ use Rattle.std.specs.Prelude.{ℕ, ◌*◌, ◌/◌, cond, List, [], ◌≡◌, 
 use Rattle.line.specs.Printed.{Wrote}
 use Rattle.tape.specs.Tapes.{Outcome, prepared}
 use Rattle.drawing.specs.declared.draws.Drawn.{Drawn}
-use Rattle.drawing.specs.declared.lines.Kind.{Kind}
+use Rattle.drawing.specs.declared.kinds.Kind.{Kind}
 use Rattle.drawing.specs.Lines.{lines_of, per_line}
 use Rattle.drawing.specs.Raws.{raw_words}
 

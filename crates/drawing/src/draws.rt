@@ -4,7 +4,8 @@ ghost use Rattle.tape.specs.Tapes.{prepared};
 ghost use Rattle.drawing.specs.Draws.{Drew, drawn, drawn_by};
 ghost use Rattle.drawing.specs.Lines.{per_line};
 
-use crate::lines::{Kind, items_for, put_lines};
+use crate::kinds::Kind;
+use crate::lines::{items_for, put_lines};
 use crate::raws::raw_words;
 use tape::prepare;
 

@@ -3,14 +3,8 @@ ghost use Rattle.std.specs.Prelude.{◌≡◌, ◌+◌, ◌*◌, ◌≤◌, ◌<
 ghost use Rattle.line.specs.Printed.{Wrote};
 ghost use Rattle.drawing.specs.Lines.{line_of, lines_of, per_line};
 
+use crate::kinds::Kind;
 use line::put_field;
-
-// The kinds of tape lines.
-#[derive(Clone, Copy)]
-pub enum Kind {
-    Masks,
-    Dealer,
-}
 
 // How many items n lines take.
 pub fn items_for(kind: Kind, n: usize) -> usize
