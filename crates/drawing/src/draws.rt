@@ -9,6 +9,12 @@ use crate::lines::{items_for, put_lines};
 use crate::raws::raw_words;
 use tape::prepare;
 
+// Of 65,536 bytes.
+const MOST_WORDS: usize = 8192;
+
+// Of 512 lines of the mask tapes.
+const MOST_ITEMS: usize = 1536;
+
 // 01's refusal number of the preparation, or 0, and how many bytes were written.
 #[derive(Clone, Copy)]
 pub struct Drawn {
@@ -39,20 +45,6 @@ fn draw_run(
     Drawn { refusal, length }
 }
 
-// Words for 65,536 bytes.
-fn words_buffer() -> [u64; 8192]
-    ensures { 8192 ≡ length result }
-{
-    [0; 8192]
-}
-
-// Items for 512 lines.
-fn items_buffer() -> [u64; 1536]
-    ensures { 1536 ≡ length result }
-{
-    [0; 1536]
-}
-
 // n lines of a kind for a ring code, from raw bytes: at most four fields of 21 bytes a line.
 pub fn draw(code: u64, n: usize, kind: Kind, raw: &[u8], out: &mut [u8]) -> Drawn
     requires lines { n ≤ 512 }
@@ -61,8 +53,8 @@ pub fn draw(code: u64, n: usize, kind: Kind, raw: &[u8], out: &mut [u8]) -> Draw
     ensures lines { Drew (drawn code n kind raw.now) out.old out.new result }
     ensures short { result.length ≤ 43008 }
 {
-    let mut words = words_buffer();
-    let mut run = items_buffer();
+    let mut words = [0; MOST_WORDS];
+    let mut run = [0; MOST_ITEMS];
     let count = raw_words(raw, &mut words);
     let items = items_for(kind, n);
     draw_run(code, n, kind, &words[0..count], &mut run[0..items], out)
