@@ -1,7 +1,9 @@
 // What an order answers.
+ghost use Rattle.std.specs.Prelude.{◌≡◌};
+ghost use Rattle.machine.specs.Answers.{number_of};
 
 // 01, "Why an order is refused"; the last is 02's, of a batch.
-#[derive(Clone, Copy)]
+#[derive(Clone, Copy, Debug, PartialEq, Eq)]
 pub enum Refusal {
     Unsound,
     NoRegister,
@@ -17,9 +19,33 @@ pub enum Refusal {
     NotSixtyFour,
 }
 
-// Done with the value opened, or 0, and the gates spent; or refused.
-#[derive(Clone, Copy)]
-pub enum Answer {
-    Done { value: u64, gates: u64 },
-    Refused(Refusal),
+// What an order that is done opened, or 0, and the gates that it spent.
+#[derive(Clone, Copy, Debug, PartialEq, Eq)]
+pub struct Done {
+    pub value: u64,
+    pub gates: u64,
+}
+
+pub type Answer = Result<Done, Refusal>;
+
+impl Refusal {
+    // Its number in 01, or in 02.
+    pub fn number(self) -> u64
+        ensures { result ≡ number_of self }
+    {
+        match self {
+            Refusal::Unsound => 1,
+            Refusal::NoRegister => 2,
+            Refusal::EmptySource => 3,
+            Refusal::WrongKind => 4,
+            Refusal::NoRing => 5,
+            Refusal::RingsDiffer => 6,
+            Refusal::OutOfRange => 7,
+            Refusal::BadLength => 8,
+            Refusal::TapeShort => 9,
+            Refusal::BadItem => 10,
+            Refusal::ChannelShort => 11,
+            Refusal::NotSixtyFour => 23,
+        }
+    }
 }

@@ -6,6 +6,6 @@ mod kinds;
 mod orders;
 mod registers;
 
-pub use answers::{Answer, Refusal};
+pub use answers::{Answer, Done, Refusal};
 pub use orders::Order;
 pub use registers::{MILLION, Machine, Register, Slot};

@@ -1,4 +1,5 @@
-// Sums, differences, products, remainders and four times, in a ring.
+// Sums, differences, products, remainders and four times, in a ring. They stay beside `modular`'s, which loops call with a width and a
+// modulus that they have: callers of one product have a ring alone.
 ghost use Rattle.std.specs.Prelude.{◌≡◌, ◌+◌, ◌*◌, ◌%◌, ◌<◌, ◌^◌};
 ghost use Rattle.ring.specs.Modular.{diff};
 ghost use Rattle.ring.specs.Rings.{modulus_of, u};

@@ -1,5 +1,6 @@
 // Arithmetic modulo p = 2^e - 1: numbers and results are below p unless a contract says otherwise. They may be secret, so nothing
 // here branches: shifts and masks stay what they are, while a compiler may make a jump of an `if` that picks one of two numbers.
+// Width and modulus stay two numbers: a loop over gates finds each once, before it, and hands them on in registers.
 ghost use Rattle.std.specs.Prelude.{◌≡◌, ◌+◌, ◌*◌, ◌/◌, ◌%◌, ◌<◌, ◌≤◌, ◌^◌};
 ghost use Rattle.ring.specs.Modular.{Cong, diff};
 ghost use Rattle.ring.specs.Rings.{Sized, modulus, rotated, u};

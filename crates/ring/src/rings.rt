@@ -3,7 +3,7 @@ ghost use Rattle.std.specs.Prelude.{◌≡◌};
 ghost use Rattle.ring.specs.Rings.{modulus_of, quarter_of, ring_of, width_of};
 
 // A ring of 01, "Rings, parts and units".
-#[derive(Clone, Copy)]
+#[derive(Clone, Copy, Debug, PartialEq, Eq)]
 pub enum Ring {
     R13,
     R31,
@@ -17,35 +17,20 @@ impl Ring {
 
     pub const WIDTH_61: u64 = 61;
 
-    pub const MODULUS_13: u64 = 0x1fff;
-
-    pub const MODULUS_31: u64 = 0x7fff_ffff;
-
-    pub const MODULUS_61: u64 = 0x1fff_ffff_ffff_ffff;
-
-    pub const QUARTER_13: u64 = 0x800;
-
-    pub const QUARTER_31: u64 = 0x2000_0000;
-
-    pub const QUARTER_61: u64 = 0x0800_0000_0000_0000;
-
     // u of document 000, the logarithm of 3 to base 2, rounded up: the quotient of three sub-shares' total by p fits u bits.
     pub const U: u64 = 2;
 
     // The ring of a width, where there is one.
+    #[tactic(auto, unfolding(crate::specs::Rings::ring_of))]
     pub fn of_width(e: u64) -> Option<Ring>
         ensures { result ≡ ring_of e }
     {
-        if e == Ring::WIDTH_13 {
-            return Some(Ring::R13);
+        match e {
+            Ring::WIDTH_13 => Some(Ring::R13),
+            Ring::WIDTH_31 => Some(Ring::R31),
+            Ring::WIDTH_61 => Some(Ring::R61),
+            _ => None,
         }
-        if e == Ring::WIDTH_31 {
-            return Some(Ring::R31);
-        }
-        if e == Ring::WIDTH_61 {
-            return Some(Ring::R61);
-        }
-        None
     }
 
     // e.
@@ -63,21 +48,13 @@ impl Ring {
     pub fn modulus(self) -> u64
         ensures { result ≡ modulus_of self }
     {
-        match self {
-            Ring::R13 => Ring::MODULUS_13,
-            Ring::R31 => Ring::MODULUS_31,
-            Ring::R61 => Ring::MODULUS_61,
-        }
+        (1 << self.width()) - 1
     }
 
     // 4^(-1) modulo p, 2^(e-2).
     pub fn quarter(self) -> u64
         ensures { result ≡ quarter_of self }
     {
-        match self {
-            Ring::R13 => Ring::QUARTER_13,
-            Ring::R31 => Ring::QUARTER_31,
-            Ring::R61 => Ring::QUARTER_61,
-        }
+        1 << (self.width() - 2)
     }
 }

@@ -1,4 +1,5 @@
 -- What one raw word and one draw do to a filling, at their place in the raw words.
+use Rattle.std.specs.Prelude.{IsSome, None, Option, Some}
 use Prim.Native.Nat.{ℕ, suc, ◌+◌, ◌-◌, ◌≤◌, ◌<◌}
 use mathlib.Core.Path.{◌≡◌, refl, ap, ◌∙◌}
 use mathlib.Core.Bool.{true, false}
@@ -9,7 +10,6 @@ use borrow.Author.Tests.{lt-ltb, le-ltb}
 use lib.ListN.{length, drop, get_or, drop_of_length-le, set, take}
 use lib.Seq.{drop-cons, take_all, take-suc-set}
 use Rattle.tape.specs.declared.draws.Draw.{Draw}
-use Rattle.tape.specs.declared.draws.Draw.TheVariants.{Item, Ended}
 use Rattle.tape.specs.Draws.{Drew, onward, suffices}
 use Rattle.tape.specs.Tapes.{Filled, filled, fill, low_bits, short, taken}
 
@@ -33,11 +33,6 @@ unfolding suffices
 suffices-taken x (filled xs used) = refl
 suffices-taken x short = refl
 
--- raw words that suffice do not run out
-pub impossible : {f g : Filled} → f ≡ short → suffices f ≡ true → f ≡ g
-unfolding suffices
-impossible {f} {g} is enough = let wrong : false ≡ true = rw is at enough in cc
-
 pub fell_short : (f : Filled) → suffices f ≡ false → f ≡ short
 unfolding suffices
 fell_short (filled xs used) h = cc
@@ -52,26 +47,39 @@ pub joined_none : (f : Filled) → f ≡ joined [] f
 joined_none (filled xs used) = refl
 joined_none short = refl
 
+pub suffices-joined : (p : List ℕ) (f : Filled) → suffices (joined p f) ≡ suffices f
+unfolding suffices
+suffices-joined p (filled xs used) = refl
+suffices-joined p short = refl
+
 joined-taken : (p : List ℕ) (x : ℕ) (f : Filled) → joined p (taken x f) ≡ joined (p ++ (x ∷ [])) f
 joined-taken p x (filled xs used) = rw append_assoc
 joined-taken p x short = refl
 
 -- a draw that meets the end, and one that gives an item: to count it, and to write it into a run
-module _ {e limit at left : ℕ} {raw : List ℕ} {r : Draw} (drew : Drew e limit at raw r) (more : 0 < left) where
+module _ {e limit at left : ℕ} {raw : List ℕ} {r : Option Draw} (drew : Drew e limit at raw r) (more : 0 < left) where
   goes_on_lem : fill e limit left at (drop at raw) ≡ onward r e limit (left - 1) raw
   goes_on_lem =
       let split : left ≡ suc (left - 1) = omega arith in
       ap (λ (n : ℕ). fill e limit n at (drop at raw)) split ∙ drew.goes (left - 1)
 
-  pub none_drawn : r ≡ Ended → fill e limit left at (drop at raw) ≡ short
+  pub none_drawn : r ≡ None → fill e limit left at (drop at raw) ≡ short
   none_drawn is = rw is at goes_on_lem
 
-  pub counted : {x next : ℕ} → r ≡ Item x next
-      → suffices (fill e limit left at (drop at raw)) ≡ suffices (fill e limit (left - 1) next (drop next raw))
+  pub drawn : suffices (fill e limit left at (drop at raw)) ≡ true → IsSome r
+  unfolding suffices
+  drawn enough = go r none_drawn
+    where
+      go : (o : Option Draw) → (o ≡ None → fill e limit left at (drop at raw) ≡ short) → IsSome o
+      go (Some d) f = refl
+      go None f = let wrong : false ≡ true = rw (f refl) at enough in cc
+
+  pub counted : {d : Draw} → r ≡ Some d
+      → suffices (fill e limit left at (drop at raw)) ≡ suffices (fill e limit (left - 1) d.next (drop d.next raw))
   counted is = rw (goes_on_lem, is) (suffices-taken _ (fill e limit (left - 1) _ _))
 
-  pub written : {x next : ℕ} (run : List ℕ) (i : ℕ) → r ≡ Item x next → i < length run
-      → joined (take i run) (fill e limit left at (drop at raw)) ≡ joined (take (i + 1) (set run i x)) (fill e limit (left - 1) next (drop next raw))
+  pub written : {d : Draw} (run : List ℕ) (i : ℕ) → r ≡ Some d → i < length run
+      → joined (take i run) (fill e limit left at (drop at raw)) ≡ joined (take (i + 1) (set run i d.item)) (fill e limit (left - 1) d.next (drop d.next raw))
   written run i is inside = rw (goes_on_lem, is, add-one, take-suc-set) (joined-taken (take i run) _ (fill e limit (left - 1) _ _))
 
 -- no item is left: the raw words suffice, and the run is full

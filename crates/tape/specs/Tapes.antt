@@ -1,9 +1,10 @@
 -- 01, "Preparing a tape".
-use Rattle.std.specs.Prelude.{ℕ, zero, suc, ◌%◌, ◌^◌, cond, List, [], ◌∷◌, eqb, ltb, length, Some, None, Option}
+use Rattle.std.specs.Prelude.{ℕ, zero, suc, ◌%◌, ◌^◌, cond, List, [], ◌∷◌, eqb, ltb, length, Some, None, Option, Ok, Err, Result}
 use Rattle.ring.specs.declared.rings.Ring.{Ring}
 use Rattle.ring.specs.Rings.{modulus_of, ring_of, width_of}
-use Rattle.tape.specs.declared.tapes.Prepared.{Prepared}
-use Rattle.tape.specs.declared.tapes.Prepared.TheVariants as answer
+use Rattle.tape.specs.declared.items.Items.{Items}
+use Rattle.tape.specs.declared.tapes.Refused.{Refused}
+use Rattle.tape.specs.declared.tapes.Refused.TheVariants.{NoRing, RawEnded}
 
 -- what a ring code asks for: items of `width` bits that lie below `limit`, or nothing
 pub data Kind : Type 0 where
@@ -22,6 +23,11 @@ kind_of code = cond (eqb code 1) (items 1 2) (kind_of_ring (ring_of code))
 -- "the low e bits"
 unfoldable pub low_bits : ℕ → ℕ → ℕ
 low_bits e w = w % 2 ^ e
+
+-- the same, as the code has it
+abbrev pub asked : Option Items → Kind
+asked (Some i) = items i.width i.limit
+asked None = other
 
 -- the items, with the count of raw words used for them; or too few raw words
 pub data Filled : Type 0 where
@@ -64,17 +70,20 @@ prepared_as other raw run = refused 5 run
 unfoldable pub prepared : ℕ → List ℕ → List ℕ → Outcome
 prepared code raw run = prepared_as (kind_of code) raw run
 
--- the number and the count of an answer
-abbrev pub refusal_of : Prepared → ℕ
-refusal_of (answer.Done used) = 0
-refusal_of answer.NoRing = 5
-refusal_of answer.RawEnded = 12
+-- the number of a refusal
+abbrev pub number_of : Refused → ℕ
+number_of NoRing = 5
+number_of RawEnded = 12
 
-abbrev pub count_of : Prepared → ℕ
-count_of (answer.Done used) = used
-count_of answer.NoRing = 0
-count_of answer.RawEnded = 0
+-- the number and the count of an answer
+abbrev pub refusal_of : Result ℕ Refused → ℕ
+refusal_of (Ok used) = 0
+refusal_of (Err w) = number_of w
+
+abbrev pub count_of : Result ℕ Refused → ℕ
+count_of (Ok used) = used
+count_of (Err w) = 0
 
 -- an answer, with the run as it was left
-abbrev pub outcome : Prepared → List ℕ → Outcome
+abbrev pub outcome : Result ℕ Refused → List ℕ → Outcome
 outcome r run = record { refusal = refusal_of r; count = count_of r; run = run }

@@ -3,11 +3,13 @@ ghost use Rattle.std.specs.Prelude.{◌≡◌, ◌<◌};
 ghost use Rattle.tape.specs.Draws.{Drew};
 ghost use Rattle.tape.specs.Tapes.{low_bits};
 
-// An item with the index of the next raw word, or the end of the raw words.
+use crate::items::Items;
+
+// An item with the index of the next raw word.
 #[derive(Clone, Copy)]
-pub enum Draw {
-    Item { item: u64, next: usize },
-    Ended,
+pub struct Draw {
+    pub item: u64,
+    pub next: usize,
 }
 
 // The low bits of w.
@@ -18,20 +20,16 @@ fn low_bits(width: u64, w: u64) -> u64
     w & ((1 << width) - 1)
 }
 
-// Draws from the raw words at `at` and on, until an item fits.
-pub fn draw_item(width: u64, limit: u64, raw: &[u64], at: usize) -> Draw
-    requires { width < 64 }
-    ensures { Drew width limit at raw.now result }
+// Draws from the raw words at `at` and on, until an item fits; none does where they end.
+pub fn draw_item(items: Items, raw: &[u64], at: usize) -> Option<Draw>
+    requires { items.width < 64 }
+    ensures { Drew items.width items.limit at raw.now result }
 {
-    let mut i = at;
-    loop {
-        if raw.len() <= i {
-            break Draw::Ended;
-        }
-        let item = low_bits(width, raw[i]);
-        i += 1;
-        if item < limit {
-            break Draw::Item { item, next: i };
+    for i in at..raw.len() {
+        let item = low_bits(items.width, raw[i]);
+        if item < items.limit {
+            return Some(Draw { item, next: i + 1 });
         }
     }
+    None
 }

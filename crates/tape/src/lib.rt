@@ -2,7 +2,9 @@
 #![tactic(auto)]
 
 mod draws;
+mod items;
 mod passes;
 mod tapes;
 
-pub use tapes::{Prepared, prepare};
+pub use items::Items;
+pub use tapes::{Refused, prepare};

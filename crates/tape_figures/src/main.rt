@@ -5,22 +5,21 @@ use std::io;
 
 fn main(rt: HostRuntime) -> io::Result<()> {
     let raw = [8191, 8192, 5];
-    show(&rt, 13, &raw)?;
-    show(&rt, 1, &raw)?;
-    show(&rt, 14, &raw)?;
+    for code in [13, 1, 14] {
+        show(&rt, code, &raw)?;
+    }
     let few = [8191, 8192];
     show(&rt, 13, &few)
 }
 
 fn show(rt: &impl Print, code: u64, raw: &[u64]) -> io::Result<()> {
     let mut run = [7, 9];
-    let made = tape::prepare(code, raw, &mut run);
-    line(rt, made.refusal())?;
-    line(rt, made.count())?;
-    line(rt, run[0])?;
-    line(rt, run[1])
-}
-
-fn line(rt: &impl Print, n: u64) -> io::Result<()> {
-    println!(rt; "{n}")
+    match tape::prepare(code, raw, &mut run) {
+        Ok(used) => println!(rt; "0\n{used}")?,
+        Err(why) => println!(rt; "{}\n0", why.number())?,
+    }
+    for item in run {
+        println!(rt; "{item}")?;
+    }
+    Ok(())
 }

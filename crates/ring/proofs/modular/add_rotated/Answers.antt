@@ -27,19 +27,9 @@ returns c =
       below = rw c.fold.ensures (fold-lt _ _ _ c.requires.sized.is (room c.before).0);
     }
 
-pub rotate_word-requires : goal.rotate_word-requires
-rotate_word-requires c =
-    record {
-      modulus = c.requires.sized.is;
-      width = omega arith;
-      places = omega arith;
-      room = omega (arith, most c, sized_lt c.requires.sized);
-    }
+pub rotate_word-requires-clause-room : goal.rotate_word-requires-clause-room
+rotate_word-requires-clause-room c = omega (arith, most c, sized_lt c.requires.sized)
 
 pub overflow_add-s : goal.overflow_add-s
 overflow_add-s c =
     omega (arith, room c)
-
-pub fold-requires : goal.fold-requires
-fold-requires c =
-    record { modulus = c.requires.sized.is; width = omega arith }

@@ -78,14 +78,6 @@ pub overflow_add-result-2 : goal.overflow_add-result-2
 overflow_add-result-2 c =
     omega (arith, left c, right c, center c)
 
-pub overflow_add-result-3 : goal.overflow_add-result-3
-overflow_add-result-3 c =
-    omega (arith, left c, right c, center c)
-
-pub overflow_shl-result : goal.overflow_shl-result
-overflow_shl-result c =
-    omega (arith, left c, right c, center c)
-
 pub overflow_add-result-4 : goal.overflow_add-result-4
 overflow_add-result-4 c =
     omega (arith, left c, right c, center c)

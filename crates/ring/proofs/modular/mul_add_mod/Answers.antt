@@ -4,7 +4,7 @@ use mathlib.Core.Path.{◌∙◌}
 use native.Mathlib.Omega.{arith}
 use Rattle.ring.proofs.CongLaw.{cong_add, cong_refl}
 use Rattle.ring.proofs.FoldLaw.{fold-lt, folded_near}
-use Rattle.ring.proofs.RangeLaw.{few_above, halved}
+use Rattle.ring.proofs.RangeLaw.{few_above}
 use Rattle.ring.proofs.modular.mul_add_mod.Goals as goal
 
 folded : (c : goal.After-fold) → c.fold.result < c.args.p + c.args.p
@@ -16,25 +16,16 @@ room : (c : goal.After-fold) → (c.fold.result + c.args.s < c.args.p * 2 ^ c.ar
     × (c.fold.result + c.args.s < 15 * 2 ^ 60)
 room c = few_above _ c.requires.sized (omega (arith, folded c))
 
-pub returns : goal.returns
-returns c =
+pub returns-clause-is : goal.returns-clause-is
+returns-clause-is c =
     let a = c.args in
     let products = c.columns in
     let near = folded_near _ _ products.result (a.a * a.b + a.c * a.d) c.requires.sized.is c.fold.ensures products.ensures.is in
-    record { is = c.reduce_short.ensures.is ∙ (cong_add near (cong_refl a.s)).same; below = c.reduce_short.ensures.below }
-
-pub columns-requires : goal.columns-requires
-columns-requires c =
-    omega (arith, c.requires.sized, halved c.requires.sized)
-
-pub fold-requires : goal.fold-requires
-fold-requires c =
-    omega (arith, c.requires.sized)
+    c.reduce_short.ensures.is ∙ (cong_add near (cong_refl a.s)).same
 
 pub overflow_add-fold : goal.overflow_add-fold
 overflow_add-fold c =
     omega (arith, room c)
 
-pub reduce_short-requires : goal.reduce_short-requires
-reduce_short-requires c =
-    record { modulus = c.requires.sized.is; width = omega (arith, c.requires.sized); room = room c }
+pub reduce_short-requires-clause-room : goal.reduce_short-requires-clause-room
+reduce_short-requires-clause-room = room

@@ -15,6 +15,5 @@ pub overflow_add-a : goal.overflow_add-a
 overflow_add-a c =
     omega (arith, modulus_room c.requires.modulus c.requires.width)
 
-pub returns : goal.returns
-returns c =
-    record { is = c.reduce_once.ensures.is ∙ difference _ _ _ c.requires.right; below = c.reduce_once.ensures.below }
+pub returns-clause-is : goal.returns-clause-is
+returns-clause-is c = c.reduce_once.ensures.is ∙ difference _ _ _ c.requires.right

@@ -1,22 +1,20 @@
 -- Invariant: the raw words from `at` on suffice for the items left where all of them suffice for n.
 use mathlib.Core.Path.{refl, sym, ap, ◌∙◌}
+use native.Mathlib.Nat.{sub-add-eq, sub-zero}
 use native.Mathlib.Omega.{arith}
 use Rattle.tape.specs.Draws.{suffices}
 use Rattle.tape.proofs.FillLaw.{all-counted, counted, none_drawn}
 use Rattle.tape.proofs.passes.enough.Goals as goal
 
-pub loop-left-preserved : goal.loop-left-preserved
-loop-left-preserved c =
-    c.loop-left.invariant ∙ counted c.draw_item.ensures (omega arith) c.in-Item.is
+pub loop-init : goal.loop-init
+loop-init c = rw sub-zero refl
+
+pub loop-preserved : goal.loop-preserved
+loop-preserved c = rw sub-add-eq (c.loop.invariant ∙ counted c.draw_item.ensures (omega arith) c.in-Some.is)
 
 pub returns-in_default : goal.returns-in_default
 unfolding suffices
-returns-in_default c =
-    sym (c.loop-left.invariant ∙ ap suffices (none_drawn c.draw_item.ensures (omega arith) c.in_default.is))
+returns-in_default c = sym (c.loop.invariant ∙ ap suffices (none_drawn c.draw_item.ensures (omega arith) c.in_default.is))
 
 pub returns : goal.returns
-returns c = sym (c.loop-left.invariant ∙ all-counted _ _ _ _ (omega arith))
-
-pub loop-left-init : goal.loop-left-init
-loop-left-init c =
-    refl
+returns c = sym (c.loop.invariant ∙ all-counted _ _ _ _ (omega arith))

@@ -1,23 +1,14 @@
--- The tests that led to each call decide what the ring code asks for.
-use mathlib.Core.Path.{refl, sym, ◌∙◌}
-use native.Mathlib.Omega.{arith}
-use Rattle.ring.proofs.RangeLaw.{width_le}
-use Rattle.tape.proofs.KindLaw.{bits-asked, other-asked, ring_asked}
+-- What the ring code asks for decides.
+use mathlib.Core.Path.{sym, ap, ◌∙◌}
+use Rattle.tape.specs.Tapes.{asked}
+use Rattle.tape.proofs.KindLaw.{narrow, none_prepared, some_prepared}
 use Rattle.tape.proofs.tapes.prepare.Goals as goal
 
-pub returns-then-code-eq1 : goal.returns-then-code-eq1
-returns-then-code-eq1 c = record { is = c.prepare_items.ensures ∙ sym (bits-asked _ _ _ c.if-code-eq1.true); lent = refl }
+pub returns-in_default-clause-is : goal.returns-in_default-clause-is
+returns-in_default-clause-is c = sym (none_prepared _ (sym (ap asked c.in_default.is) ∙ c.of_code.ensures) _ _)
 
-pub prepare_items-requires-in-Some : goal.prepare_items-requires-in-Some
-prepare_items-requires-in-Some c = omega (arith, c.width-width.ensures, width_le c.in-Some.ring)
+pub prepare_items-requires : goal.prepare_items-requires
+prepare_items-requires c = narrow _ _ _ (sym (ap asked c.in-Some.is) ∙ c.of_code.ensures)
 
-pub returns-in-Some : goal.returns-in-Some
-returns-in-Some c =
-    let asked = ring_asked _ _ _ c.if-code-eq1.false (sym c.of_width.ensures ∙ c.in-Some.is) in record {
-      is = rw (c.width-width.ensures, c.modulus-limit.ensures) at c.prepare_items-in-Some.ensures ∙ sym asked;
-      lent = refl;
-    }
-
-pub returns-in-None : goal.returns-in-None
-returns-in-None c =
-    record { is = sym (other-asked _ _ _ c.if-code-eq1.false (sym c.of_width.ensures ∙ c.in-None.is)); lent = refl }
+pub returns-clause-is : goal.returns-clause-is
+returns-clause-is c = c.prepare_items.ensures ∙ sym (some_prepared _ (sym (ap asked c.in-Some.is) ∙ c.of_code.ensures) _ _)

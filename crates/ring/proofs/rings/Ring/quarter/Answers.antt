@@ -1,18 +1,11 @@
--- Each ring's constant is the definition's number.
-use Rattle.ring.specs.Rings.{quarter}
+-- A one moved up by two less than the width is its power of two.
+use Prim.Native.Nat.{◌-◌}
+use native.Mathlib.Omega.{arith}
+use Rattle.ring.specs.Rings.{quarter, width_of}
+use Rattle.ring.proofs.RangeLaw.{width_le}
+use Rattle.ring.proofs.WordLaw.{shifted_one}
 use Rattle.ring.proofs.rings.Ring.quarter.Goals as goal
 
-pub returns-in-R13 : goal.returns-in-R13
+pub returns : goal.returns
 unfolding quarter
-returns-in-R13 c =
-    rw c.in-R13.is
-
-pub returns-in-R31 : goal.returns-in-R31
-unfolding quarter
-returns-in-R31 c =
-    rw c.in-R31.is
-
-pub returns-in-R61 : goal.returns-in-R61
-unfolding quarter
-returns-in-R61 c =
-    rw c.in-R61.is
+returns c = rw (c.width.ensures, shifted_one (width_of c.args.self - 2) (omega (arith, width_le c.args.self)))
