@@ -6,7 +6,7 @@ ghost use Rattle.line.specs.Lines.{number_of};
 use crate::asked::{Asked, BadArgument};
 use crate::kinds::Kind;
 use line::Reading;
-use ring::Ring;
+use tape::Items;
 
 // A job takes at most this many lines of each tape kind.
 const MOST_LINES: u64 = 512;
@@ -34,12 +34,12 @@ fn read_number(text: &[u8]) -> Option<u64>
     number_in(reading)
 }
 
-// Whether there are items for a ring code: 1 is that of bits.
-#[tactic(auto, unfolding(crate::specs::Asks::is_code, tape::specs::Tapes::kind_of))]
+// Whether there are items for a ring code.
+#[tactic(auto, unfolding(crate::specs::Asks::is_code))]
 fn is_code(code: u64) -> bool
     ensures { result ≡ is_code code }
 {
-    code == 1 || Ring::of_width(code).is_some()
+    Items::of_code(code).is_some()
 }
 
 // The first argument.

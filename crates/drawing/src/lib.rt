@@ -10,5 +10,5 @@ mod raws;
 
 pub use asked::{Asked, BadArgument};
 pub use asks::ask;
-pub use draws::{Drawn, draw};
+pub use draws::draw;
 pub use kinds::Kind;
