@@ -1,40 +1,30 @@
 -- A preparation and the lines of its items.
+use Rattle.std.specs.Prelude.{Ok, Err, Result}
 use Prim.Native.Nat.{ℕ, ◌-◌, ◌*◌, ◌/◌, ◌≤◌}
-use mathlib.Core.Path.{◌≡◌, refl, ap, sym, ◌∙◌}
+use mathlib.Core.Path.{◌≡◌, refl, sym, ◌∙◌}
 use mathlib.Core.List.{List}
 use native.Mathlib.Nat.{sub-zero}
-use borrow.Author.Tests.{eq-eqb, ne_eqb}
 use lib.ListN.{length, length-replicate, replicate, take}
 use lib.Seq.{length-take-le}
 use Rattle.line.specs.Printed.{Wrote}
-use Rattle.tape.specs.Tapes.{Filled, Kind as Items, Outcome, fill, filled, items, kind_of, other, outcome, prepared, prepared_as, refusal_of, settled, short}
-use Rattle.tape.specs.declared.tapes.Prepared.{Prepared}
+use Rattle.tape.specs.Tapes.{Filled, Kind as Items, Outcome, fill, filled, items, kind_of, other, outcome, prepared, prepared_as, settled, short}
+use Rattle.tape.specs.declared.tapes.Refused.{Refused}
+use Rattle.tape.specs.declared.tapes.Refused.TheVariants.{NoRing, RawEnded}
 use Rattle.drawing.specs.Draws.{Drew, drawn, drawn_by}
 use Rattle.drawing.specs.Lines.{lines_of, per_line}
 use Rattle.drawing.specs.Raws.{raw_words}
-use Rattle.drawing.specs.declared.draws.Drawn.{Drawn}
-use Rattle.drawing.specs.declared.lines.Kind.{Kind}
+use Rattle.drawing.specs.declared.kinds.Kind.{Kind}
 
-pub run_is : {o : Outcome} (p : Prepared) {run : List ℕ} → outcome p run ≡ o → run ≡ o.run
-run_is p is = ap (λ (u : Outcome). u.run) is
-
-module _ (kind : Kind) (n : ℕ) {o : Outcome} (p : Prepared) {run : List ℕ} (is : outcome p run ≡ o) {m : ℕ} (told : m ≡ refusal_of p) where
-  number_is : m ≡ o.refusal
-  number_is = told ∙ ap (λ (u : Outcome). u.refusal) is
-
-  pub nothing-drawn : (out : List ℕ) → (m ≡ 0 → ⊥) → Drew (drawn_by kind n o) out out (record { refusal = m; length = 0 })
+module _ (kind : Kind) (n : ℕ) {o : Outcome} {run : List ℕ} where
+  pub nothing-drawn : (out : List ℕ) (w : Refused) → outcome (Err w) run ≡ o → Drew (drawn_by kind n o) out out (Err w)
   unfolding drawn_by
-  nothing-drawn out not =
-      record {
-        refusal = number_is;
-        writes = rw (← number_is, ne_eqb m 0 not) (record { after = refl; run = refl });
-      }
+  nothing-drawn out NoRing is = rw (← is) (record { refusal = refl; writes = record { after = refl; run = refl } })
+  nothing-drawn out RawEnded is = rw (← is) (record { refusal = refl; writes = record { after = refl; run = refl } })
 
-  pub lines-drawn : {out exit : List ℕ} {len : ℕ} → m ≡ 0 → Wrote 0 (lines_of kind n run) out exit len
-      → Drew (drawn_by kind n o) out exit (record { refusal = m; length = len })
+  pub lines-drawn : {out exit : List ℕ} {used len : ℕ} → outcome (Ok used) run ≡ o → Wrote 0 (lines_of kind n run) out exit len
+      → Drew (drawn_by kind n o) out exit (Ok len)
   unfolding drawn_by
-  lines-drawn zero w =
-      record { refusal = number_is; writes = rw (← number_is, eq-eqb m 0 zero, ← run_is p is) w }
+  lines-drawn is w = rw (← is) (record { refusal = refl; writes = w })
 
 -- what a run held does not matter
 settled_same : (kind : Kind) (n : ℕ) (a b : List ℕ) (f : Filled) → drawn_by kind n (settled a f) ≡ drawn_by kind n (settled b f)
@@ -52,7 +42,7 @@ kind_same kind n other ws a b h = refl
 pub items-lent : (m : ℕ) (run : List ℕ) {k : ℕ} → m ≡ k → m ≤ length run → length (take (m - 0) run) ≡ k
 items-lent m run is room = rw sub-zero (length-take-le m run room ∙ is)
 
-pub drawn_is : (code n : ℕ) (kind : Kind) (raw ws run : List ℕ) {entry exit : List ℕ} {r : Drawn}
+pub drawn_is : (code n : ℕ) (kind : Kind) (raw ws run : List ℕ) {entry exit : List ℕ} {r : Result ℕ Refused}
     → ws ≡ raw_words (length raw / 8) raw → length run ≡ per_line kind * n
     → Drew (drawn_by kind n (prepared code ws run)) entry exit r → Drew (drawn code n kind raw) entry exit r
 unfolding drawn prepared

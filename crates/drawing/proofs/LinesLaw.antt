@@ -9,8 +9,8 @@ use lib.ListN.{length}
 use Rattle.line.specs.Printed.{Wrote}
 use Rattle.line.proofs.PrintLaw.{also}
 use Rattle.drawing.specs.Lines.{line_of, lines_of, per_line}
-use Rattle.drawing.specs.declared.lines.Kind.{Kind}
-use Rattle.drawing.specs.declared.lines.Kind.TheVariants.{Dealer, Masks}
+use Rattle.drawing.specs.declared.kinds.Kind.{Kind}
+use Rattle.drawing.specs.declared.kinds.Kind.TheVariants.{Dealer, Masks}
 
 -- by the kind of line
 pub masks_fit : {kind : Kind} (k n : ℕ) → kind ≡ Masks → per_line kind * (k + 1) ≤ n → 3 * (k + 1) ≤ n

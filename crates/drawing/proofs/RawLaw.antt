@@ -5,8 +5,11 @@ use mathlib.Core.List.{List, [], ◌∷◌, ◌++◌, append_assoc}
 use native.Mathlib.Nat.{sub-zero}
 use native.Mathlib.Numerals.{add-one}
 use native.Mathlib.Omega.{arith}
-use lib.ListN.{drop, length, length-append, length-set, set, take}
-use lib.Seq.{drop-cons, set_at, take_at}
+use lib.ListN.{drop, get_or, length, length-append, length-set, set, take}
+use lib.Seq.{drop-cons, drop-drop, set_at, take_at}
+use Rattle.std.proofs.lemmas.List.{get_or-drop, get_or-take}
+use Rattle.std.specs.Int.{from_le_bytes, w64}
+use Rattle.std.specs.Simd.{first_chunks}
 use Rattle.drawing.specs.Raws.{raw_words, word_at}
 
 words-length : (k : ℕ) (raw : List ℕ) → length (raw_words k raw) ≡ k
@@ -32,6 +35,36 @@ one_word {raw} {start} {words} {n} {k} {v} w more room is =
       long = rw length-set w.long;
       same = rw (w.same, grown, drop-cons start k 0 inside, set_at _ _ _ _ k (words-length k raw), append_assoc, add-one k);
     }
+
+-- chunks of eight bytes
+chunk_at : (raw : List ℕ) (k i : ℕ) (d : List ℕ) → i < k → get_or (first_chunks 8 k raw) i d ≡ take 8 (drop (8 * i) raw)
+chunk_at raw zero i d h = absurd (omega arith)
+chunk_at raw (suc k) zero d h = refl
+chunk_at raw (suc k) (suc i) d h =
+    let next : 8 + 8 * i ≡ 8 * suc i = omega arith in
+    rw (chunk_at (drop 8 raw) k i d (omega arith), drop-drop (8 * i) 8 raw, next)
+
+module _ (raw : List ℕ) (at : ℕ) where
+  byte_at : (j n : ℕ) → j < 8 → n ≡ at + j → get_or (take 8 (drop at raw)) j 0 ≡ get_or raw n 0
+  byte_at j n h is = rw (get_or-take, get_or-drop, is)
+
+  chunk_word : from_le_bytes w64 (take 8 (drop at raw)) ≡ word_at raw at
+  chunk_word =
+      omega (
+        arith,
+        byte_at 0 at (omega arith) (omega arith),
+        byte_at 1 (at + 1) (omega arith) (omega arith),
+        byte_at 2 (at + 2) (omega arith) (omega arith),
+        byte_at 3 (at + 3) (omega arith) (omega arith),
+        byte_at 4 (at + 4) (omega arith) (omega arith),
+        byte_at 5 (at + 4 + 1) (omega arith) (omega arith),
+        byte_at 6 (at + 4 + 2) (omega arith) (omega arith),
+        byte_at 7 (at + 4 + 3) (omega arith) (omega arith),
+      )
+
+pub word_is : (raw : List ℕ) (chunks : List (List ℕ)) (k i : ℕ) (d : List ℕ) {v : ℕ} → chunks ≡ first_chunks 8 k raw → i < k
+    → v ≡ from_le_bytes w64 (get_or chunks i d) → v ≡ word_at raw (8 * i)
+word_is raw chunks k i d is h e = e ∙ rw (is, chunk_at raw k i d h) (chunk_word raw (8 * i))
 
 -- the words lent
 pub words-lent : (raw start words : List ℕ) (k : ℕ) → k ≡ length raw / 8 → words ≡ raw_words k raw ++ drop k start

@@ -22,8 +22,8 @@ use Rattle.tape.proofs.Theorems.{in_range, same_length}
 use Rattle.drawing.specs.Draws.{drawn, drawn_by, items_of}
 use Rattle.drawing.specs.Lines.{dealer_line, line_of, lines_of, masks_line}
 use Rattle.drawing.specs.Theorems.{ReadAsTapes, command_at, commands_of}
-use Rattle.drawing.specs.declared.lines.Kind.{Kind}
-use Rattle.drawing.specs.declared.lines.Kind.TheVariants.{Dealer, Masks}
+use Rattle.drawing.specs.declared.kinds.Kind.{Kind}
+use Rattle.drawing.specs.declared.kinds.Kind.TheVariants.{Dealer, Masks}
 
 -- bytes within a line
 unfoldable within : List ℕ → Bool

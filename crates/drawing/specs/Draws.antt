@@ -1,9 +1,9 @@
 -- What is printed: the items that one preparation gives, as lines.
-use Rattle.std.specs.Prelude.{ℕ, ◌*◌, ◌/◌, cond, List, [], ◌≡◌, eqb, length, replicate}
+use Rattle.std.specs.Prelude.{ℕ, ◌*◌, ◌/◌, cond, List, [], ◌≡◌, eqb, length, replicate, Result}
 use Rattle.line.specs.Printed.{Wrote}
-use Rattle.tape.specs.Tapes.{Outcome, prepared}
-use Rattle.drawing.specs.declared.draws.Drawn.{Drawn}
-use Rattle.drawing.specs.declared.lines.Kind.{Kind}
+use Rattle.tape.specs.Tapes.{Outcome, count_of, prepared, refusal_of}
+use Rattle.tape.specs.declared.tapes.Refused.{Refused}
+use Rattle.drawing.specs.declared.kinds.Kind.{Kind}
 use Rattle.drawing.specs.Lines.{lines_of, per_line}
 use Rattle.drawing.specs.Raws.{raw_words}
 
@@ -24,7 +24,7 @@ items_of code n kind raw = prepared code (raw_words (length raw / 8) raw) (repli
 unfoldable pub drawn : (code n : ℕ) → Kind → List ℕ → Output
 drawn code n kind raw = drawn_by kind n (items_of code n kind raw)
 
--- the answer, and the bytes written from the start of a run, where all else stays
-pub record Drew (o : Output) (entry exit : List ℕ) (r : Drawn) : Type 0 where
-  pub refusal : r.refusal ≡ o.refusal
-  pub writes : Wrote 0 o.bytes entry exit r.length
+-- the answer, a refusal or a count of bytes, and the bytes written from the start of a run, where all else stays
+pub record Drew (o : Output) (entry exit : List ℕ) (r : Result ℕ Refused) : Type 0 where
+  pub refusal : refusal_of r ≡ o.refusal
+  pub writes : Wrote 0 o.bytes entry exit (count_of r)

@@ -1,8 +1,8 @@
 -- 01, "The job program": tape lines.
 use Rattle.std.specs.Prelude.{ℕ, zero, suc, ◌+◌, ◌*◌, List, [], ◌++◌, get_or}
 use Rattle.line.specs.Printed.{field}
-use Rattle.drawing.specs.declared.lines.Kind.{Kind}
-use Rattle.drawing.specs.declared.lines.Kind.TheVariants.{Dealer, Masks}
+use Rattle.drawing.specs.declared.kinds.Kind.{Kind}
+use Rattle.drawing.specs.declared.kinds.Kind.TheVariants.{Dealer, Masks}
 
 -- "Kind 0 adds t0,t1,t2 to the strands"
 unfoldable pub masks_line : (t0 t1 t2 : ℕ) → List ℕ

@@ -4,8 +4,8 @@ use Rattle.line.specs.Lines as job
 use Rattle.line.specs.declared.commands.Command.{Command}
 use Rattle.line.specs.declared.commands.Command.TheVariants as command
 use Rattle.drawing.specs.Draws.{drawn, items_of}
-use Rattle.drawing.specs.declared.lines.Kind.{Kind}
-use Rattle.drawing.specs.declared.lines.Kind.TheVariants.{Dealer, Masks}
+use Rattle.drawing.specs.declared.kinds.Kind.{Kind}
+use Rattle.drawing.specs.declared.kinds.Kind.TheVariants.{Dealer, Masks}
 
 -- what line k adds to the tapes
 abbrev pub command_at : Kind → ℕ → List ℕ → Command

@@ -1,130 +1,85 @@
 // What the arguments ask for.
-ghost use Rattle.std.specs.Prelude.{◌≡◌};
-ghost use Rattle.drawing.specs.Asks.{Few, asked_of, code_in, few_in, is_code, kind_of, number_in, told};
+ghost use Rattle.std.specs.Prelude.{◌≡◌, ◌≤◌, IfOk};
+ghost use Rattle.drawing.specs.Asks.{asked_of, code_in, few_in, is_code, kind_of, number_in};
 ghost use Rattle.line.specs.Lines.{number_of};
 
-use crate::lines::Kind;
+use crate::asked::{Asked, BadArgument};
+use crate::kinds::Kind;
 use line::Reading;
-use ring::Ring;
-
-// The number of an argument, if it has one that will do.
-#[derive(Clone, Copy)]
-pub enum Number {
-    Read(u64),
-    NoNumber,
-}
-
-// The kind that a name says, if it says one.
-#[derive(Clone, Copy)]
-pub enum KindRead {
-    Found(Kind),
-    NoKind,
-}
-
-// A count of lines of a kind for a ring code, or the first argument that will not do.
-#[derive(Clone, Copy)]
-pub enum Asked {
-    Lines { code: u64, count: u64, kind: Kind },
-    NoRing,
-    NoCount,
-    NoKind,
-}
+use tape::Items;
 
 // A job takes at most this many lines of each tape kind.
 const MOST_LINES: u64 = 512;
 
 // The number of a text that was read as one field.
-fn number_in(r: Reading) -> Number
+#[tactic(auto, unfolding(crate::specs::Asks::number_in))]
+fn number_in(r: Reading) -> Option<u64>
     ensures { result ≡ number_in r }
 {
-    if r.spoiled | (r.digits == 0) | (r.commas != 0) {
-        return Number::NoNumber;
+    let fields = r.fields?;
+    if fields.digits == 0 || fields.commas != 0 {
+        return None;
     }
-    Number::Read(r.value)
+    Some(fields.value)
 }
 
 // The number of a text of 1 to 20 digits, below 2^64.
-fn read_number(text: &[u8]) -> Number
-    ensures { result ≡ told (number_of text.now) }
+fn read_number(text: &[u8]) -> Option<u64>
+    ensures { result ≡ number_of text.now }
 {
     let mut reading = Reading::start();
-    let mut i = 0;
-    while i < text.len() {
-        reading = reading.byte(text[i]);
-        i += 1;
+    for b in text {
+        reading = reading.byte(*b);
     }
     number_in(reading)
 }
 
 // Whether there are items for a ring code.
+#[tactic(auto, unfolding(crate::specs::Asks::is_code))]
 fn is_code(code: u64) -> bool
     ensures { result ≡ is_code code }
 {
-    if code == 1 {
-        return true;
-    }
-    match Ring::of_width(code) {
-        Some(_) => true,
-        None => false,
-    }
+    Items::of_code(code).is_some()
 }
 
 // The first argument.
-fn ring_code(n: Number) -> Number
-    ensures { result ≡ code_in n }
+#[tactic(auto, unfolding(crate::specs::Asks::code_in))]
+fn ring_code(text: &[u8]) -> Option<u64>
+    ensures { result ≡ code_in (number_of text.now) }
 {
-    let Number::Read(code) = n else {
-        return Number::NoNumber;
-    };
-    if is_code(code) {
-        return Number::Read(code);
-    }
-    Number::NoNumber
+    read_number(text).filter(|code| is_code(*code))
 }
 
 // The second.
-fn few(n: Number) -> Number
-    ensures { result ≡ few_in n }
+#[tactic(auto, unfolding(crate::specs::Asks::few_in))]
+fn few(text: &[u8]) -> Option<u64>
+    ensures { result ≡ few_in (number_of text.now) }
 {
-    let Number::Read(count) = n else {
-        return Number::NoNumber;
-    };
-    if MOST_LINES < count {
-        return Number::NoNumber;
-    }
-    Number::Read(count)
+    read_number(text).filter(|count| *count <= MOST_LINES)
 }
 
 // The third.
-fn kind_of(text: &[u8]) -> KindRead
+#[tactic(auto, unfolding(crate::specs::Asks::kind_of))]
+fn kind_of(text: &[u8]) -> Option<Kind>
     ensures { result ≡ kind_of text.now }
 {
-    if check::same(text, b"masks") {
-        return KindRead::Found(Kind::Masks);
+    if text == b"masks".as_slice() {
+        return Some(Kind::Masks);
     }
-    if check::same(text, b"dealer") {
-        return KindRead::Found(Kind::Dealer);
+    if text == b"dealer".as_slice() {
+        return Some(Kind::Dealer);
     }
-    KindRead::NoKind
+    None
 }
 
 // The three arguments.
-pub fn ask(ring: &[u8], count: &[u8], kind: &[u8]) -> Asked
+#[tactic(auto, unfolding(crate::specs::Asks::asked_of))]
+pub fn ask(ring: &[u8], count: &[u8], kind: &[u8]) -> Result<Asked, BadArgument>
     ensures is { result ≡ asked_of ring.now count.now kind.now }
-    ensures few { Few result }
+    ensures few { IfOk result (λ a. a.count ≤ 512) }
 {
-    let Number::Read(code) = ring_code(read_number(ring)) else {
-        return Asked::NoRing;
-    };
-    let Number::Read(lines) = few(read_number(count)) else {
-        return Asked::NoCount;
-    };
-    let KindRead::Found(found) = kind_of(kind) else {
-        return Asked::NoKind;
-    };
-    Asked::Lines {
-        code,
-        count: lines,
-        kind: found,
-    }
+    let code = ring_code(ring).ok_or(BadArgument::Ring)?;
+    let count = few(count).ok_or(BadArgument::Count)?;
+    let kind = kind_of(kind).ok_or(BadArgument::Kind)?;
+    Ok(Asked { code, count, kind })
 }

@@ -1,21 +1,21 @@
 // Items drawn from raw bytes, printed as tape lines.
-ghost use Rattle.std.specs.Prelude.{◌≡◌, ◌*◌, ◌≤◌, length};
+ghost use Rattle.std.specs.Prelude.{◌≡◌, ◌*◌, ◌≤◌, IfOk, length};
 ghost use Rattle.tape.specs.Tapes.{prepared};
 ghost use Rattle.drawing.specs.Draws.{Drew, drawn, drawn_by};
 ghost use Rattle.drawing.specs.Lines.{per_line};
 
-use crate::lines::{Kind, items_for, put_lines};
+use crate::kinds::Kind;
+use crate::lines::{items_for, put_lines};
 use crate::raws::raw_words;
-use tape::prepare;
+use tape::{Refused, prepare};
 
-// 01's refusal number of the preparation, or 0, and how many bytes were written.
-#[derive(Clone, Copy)]
-pub struct Drawn {
-    pub refusal: u64,
-    pub length: usize,
-}
+// Of 65,536 bytes.
+const MOST_WORDS: usize = 8192;
 
-// n lines of the items that the raw words give for the whole run.
+// Of 512 lines of the mask tapes.
+const MOST_ITEMS: usize = 1536;
+
+// n lines of the items that the raw words give for the whole run, and how many bytes they take.
 fn draw_run(
     code: u64,
     n: usize,
@@ -23,45 +23,27 @@ fn draw_run(
     words: &[u64],
     run: &mut [u64],
     out: &mut [u8],
-) -> Drawn
+) -> Result<usize, Refused>
     requires items { per_line kind * n ≡ length run.old }
     requires room { 84 * n ≤ length out.old }
     ensures lines { Drew (drawn_by kind n (prepared code words.now run.old)) out.old out.new result }
     ensures run { run.new ≡ (prepared code words.now run.old).run }
-    ensures short { result.length ≤ 84 * n }
+    ensures short { IfOk result (λ len. len ≤ 84 * n) }
 {
-    let refusal = prepare(code, words, run).refusal();
-    if refusal != 0 {
-        return Drawn { refusal, length: 0 };
-    }
-    let length = put_lines(kind, run, n, out);
-    Drawn { refusal, length }
-}
-
-// Words for 65,536 bytes.
-fn words_buffer() -> [u64; 8192]
-    ensures { 8192 ≡ length result }
-{
-    [0; 8192]
-}
-
-// Items for 512 lines.
-fn items_buffer() -> [u64; 1536]
-    ensures { 1536 ≡ length result }
-{
-    [0; 1536]
+    prepare(code, words, run)?;
+    Ok(put_lines(kind, run, n, out))
 }
 
 // n lines of a kind for a ring code, from raw bytes: at most four fields of 21 bytes a line.
-pub fn draw(code: u64, n: usize, kind: Kind, raw: &[u8], out: &mut [u8]) -> Drawn
+pub fn draw(code: u64, n: usize, kind: Kind, raw: &[u8], out: &mut [u8]) -> Result<usize, Refused>
     requires lines { n ≤ 512 }
     requires raw { length raw.now ≤ 65536 }
     requires room { 43008 ≤ length out.old }
     ensures lines { Drew (drawn code n kind raw.now) out.old out.new result }
-    ensures short { result.length ≤ 43008 }
+    ensures short { IfOk result (λ len. len ≤ 43008) }
 {
-    let mut words = words_buffer();
-    let mut run = items_buffer();
+    let mut words = [0; MOST_WORDS];
+    let mut run = [0; MOST_ITEMS];
     let count = raw_words(raw, &mut words);
     let items = items_for(kind, n);
     draw_run(code, n, kind, &words[0..count], &mut run[0..items], out)

@@ -1,11 +1,14 @@
 // Tape lines of the job program, drawn from raw bytes.
 #![tactic(auto)]
 
+mod asked;
 mod asks;
 mod draws;
+mod kinds;
 mod lines;
 mod raws;
 
-pub use asks::{Asked, ask};
-pub use draws::{Drawn, draw};
-pub use lines::Kind;
+pub use asked::{Asked, BadArgument};
+pub use asks::ask;
+pub use draws::draw;
+pub use kinds::Kind;

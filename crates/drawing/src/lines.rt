@@ -3,14 +3,8 @@ ghost use Rattle.std.specs.Prelude.{◌≡◌, ◌+◌, ◌*◌, ◌≤◌, ◌<
 ghost use Rattle.line.specs.Printed.{Wrote};
 ghost use Rattle.drawing.specs.Lines.{line_of, lines_of, per_line};
 
+use crate::kinds::Kind;
 use line::put_field;
-
-// The kinds of tape lines.
-#[derive(Clone, Copy)]
-pub enum Kind {
-    Masks,
-    Dealer,
-}
 
 // How many items n lines take.
 pub fn items_for(kind: Kind, n: usize) -> usize
@@ -24,17 +18,18 @@ pub fn items_for(kind: Kind, n: usize) -> usize
     }
 }
 
-// Writes line k of the mask tapes at `at`, and answers the place after it.
+// Writes line k of the mask tapes at `at`, and answers the place after it. A loop over a line's items
+// would be no plainer than these two functions: the byte behind the last one is another.
 fn put_masks(items: &[u64], k: usize, out: &mut [u8], at: usize) -> usize
     requires items { 3 * (k + 1) ≤ length items.now }
     requires room { at + 84 ≤ length out.old }
     ensures writes { Wrote at (line_of Kind.Masks k items.now) out.old out.new result }
     ensures short { result ≤ at + 84 }
 {
-    let a = put_field(out, at, 0, 44);
-    let b = put_field(out, a, items[3 * k], 44);
-    let c = put_field(out, b, items[3 * k + 1], 44);
-    put_field(out, c, items[3 * k + 2], 10)
+    let a = put_field(out, at, 0, b',');
+    let b = put_field(out, a, items[3 * k], b',');
+    let c = put_field(out, b, items[3 * k + 1], b',');
+    put_field(out, c, items[3 * k + 2], b'\n')
 }
 
 // The same for the dealer's tape.
@@ -44,8 +39,8 @@ fn put_dealer(items: &[u64], k: usize, out: &mut [u8], at: usize) -> usize
     ensures writes { Wrote at (line_of Kind.Dealer k items.now) out.old out.new result }
     ensures short { result ≤ at + 84 }
 {
-    let a = put_field(out, at, 10, 44);
-    put_field(out, a, items[k], 10)
+    let a = put_field(out, at, 10, b',');
+    put_field(out, a, items[k], b'\n')
 }
 
 // Line k of either kind.
@@ -69,10 +64,8 @@ pub fn put_lines(kind: Kind, items: &[u64], n: usize, out: &mut [u8]) -> usize
     ensures short { result ≤ 84 * n }
 {
     let mut at = 0;
-    let mut k = 0;
-    while k < n {
+    for k in 0..n {
         at = put_line(kind, items, k, out, at);
-        k += 1;
     }
     at
 }

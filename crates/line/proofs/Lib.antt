@@ -1,6 +1,5 @@
 pub mod FieldLaw
 pub mod ReadLaw
-pub mod StepLaw
 pub mod LineLaw
 pub mod DecimalLaw
 pub mod PrintLaw

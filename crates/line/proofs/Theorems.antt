@@ -1,30 +1,15 @@
 -- The facts about lines (specs/Theorems.antt).
-use Prim.Native.Nat.{ℕ, ◌-◌, ◌*◌, ◌+◌, ◌^◌}
+use Prim.Native.Nat.{ℕ}
 use mathlib.Core.Path.{◌≡◌, refl}
-use mathlib.Core.Bool.{true, ◌&&◌}
+use mathlib.Core.Bool.{true}
 use mathlib.Core.List.{List, [], ◌∷◌}
-use lib.Dec.{eqb, ltb}
 use Rattle.machine.specs.Orders.{of_kind}
-use Rattle.line.specs.Lines.{
-  all_digits,
-  command_of,
-  fields_from,
-  fits,
-  is_digit,
-  lines_of,
-  number_from,
-  number_of,
-  numbers_of,
-  with_numbers,
-  with_one,
-  with_three,
-}
+use Rattle.line.specs.Lines.{all_digits, command_of, fields_from, fits, lines_of, number_from, number_of, numbers_of, with_numbers, with_one, with_three}
 use Rattle.line.specs.Printed.{decimal, decimal_by, printed}
-use Rattle.line.specs.Readings.{byte_on, comma_on, digit_on, read_on, started}
+use Rattle.line.specs.Readings.{byte_on, read_on, started}
 use Rattle.line.specs.Theorems as theorem
 use Rattle.line.specs.declared.readings.Reading.{Reading}
 use Rattle.line.proofs.DecimalLaw as decimals
-use Rattle.line.proofs.FieldLaw.{split}
 use Rattle.line.proofs.ItemLaw as items
 use Rattle.line.proofs.LineLaw as lines
 use Rattle.line.proofs.ReadLaw as readings
@@ -36,31 +21,13 @@ pub in_chunks : theorem.InChunks
 in_chunks r [] ys = refl
 in_chunks r (b ∷ xs) ys = in_chunks (byte_on r b) xs ys
 
-comma_seen : (r : Reading) → (comma_on r).seen ≡ true
-unfolding comma_on
-comma_seen r =
-    split (eqb r.digits 0) (λ e. rw e) (λ e. rw e
-    (split (eqb r.commas 0) (λ e. rw e) (λ e. rw e
-    (split (eqb r.commas 1) (λ e. rw e) (λ e. rw e
-    (split (eqb r.commas 2) (λ e. rw e) (λ e. rw e)))))))
-
-digit-seen : (r : Reading) (d : ℕ) → (digit_on r d).seen ≡ true
-unfolding digit_on
-digit-seen r d = split (ltb r.digits 20 && ltb (r.value * 10 + d) (2 ^ 64)) (λ e. rw e) (λ e. rw e)
-
-byte_seen : (r : Reading) (b : ℕ) → (byte_on r b).seen ≡ true
-unfolding byte_on
-byte_seen r b =
-    split r.spoiled (λ e. rw e) (λ e. rw e
-    (split (eqb b 44) (λ e. rw e (comma_seen _)) (λ e. rw e
-    (split (is_digit b) (λ e. rw e (digit-seen _ (b - 48))) (λ e. rw e)))))
-
+-- whatever the byte, one was seen
 seen_stays : (r : Reading) (bs : List ℕ) → r.seen ≡ true → (read_on r bs).seen ≡ true
 seen_stays r [] h = h
-seen_stays r (b ∷ bs) h = seen_stays (byte_on r b) bs (byte_seen r b)
+seen_stays r (b ∷ bs) h = seen_stays (byte_on r b) bs refl
 
 pub seen_any : theorem.SeenAny
-seen_any = (refl, λ b bs. seen_stays (byte_on started b) bs (byte_seen started b))
+seen_any = (refl, λ b bs. seen_stays (byte_on started b) bs refl)
 
 pub first-line : theorem.FirstLine
 first-line = lines.first-line

@@ -7,4 +7,4 @@ mod readings;
 
 pub use commands::Command;
 pub use printing::{print_line, put_field};
-pub use readings::{Reading, Taken, take_line};
+pub use readings::{Fields, Reading, Taken, take_line};

@@ -1,19 +1,8 @@
 // The line that is printed for an order.
 ghost use Rattle.std.specs.Prelude.{◌≡◌, ◌+◌, ◌≤◌, length};
-ghost use Rattle.line.specs.Printed.{Wrote, decimal, field, printed};
+ghost use Rattle.line.specs.Printed.{Wrote, field, printed};
 
-// How many digits the decimal of n has.
-fn digit_count(n: u64) -> usize
-    ensures { result ≡ length (decimal n) }
-{
-    let mut count = 1;
-    let mut left = n;
-    while 9 < left {
-        left /= 10;
-        count += 1;
-    }
-    count
-}
+use itoa::Buffer;
 
 // Writes the decimal of n at `at`, with a byte after it, and answers the place after both.
 pub fn put_field(out: &mut [u8], at: usize, n: u64, end: u8) -> usize
@@ -21,15 +10,11 @@ pub fn put_field(out: &mut [u8], at: usize, n: u64, end: u8) -> usize
     ensures writes { Wrote at (field n end) out.old out.new result }
     ensures short { result ≤ at + 21 }
 {
-    let stop = at + digit_count(n);
+    let mut buffer = Buffer::new();
+    let digits = buffer.format(n).as_bytes();
+    let stop = at + digits.len();
+    out[at..stop].copy_from_slice(digits);
     out[stop] = end;
-    let mut i = stop;
-    let mut left = n;
-    while at < i {
-        i -= 1;
-        out[i] = 48 + (left % 10) as u8;
-        left /= 10;
-    }
     stop + 1
 }
 
@@ -47,9 +32,9 @@ pub fn print_line(
     ensures writes { Wrote at (printed line refusal value masks_at channels_at) out.old out.new result }
     ensures short { result ≤ at + 105 }
 {
-    let a = put_field(out, at, line, 44);
-    let b = put_field(out, a, refusal, 44);
-    let c = put_field(out, b, value, 44);
-    let d = put_field(out, c, masks_at, 44);
-    put_field(out, d, channels_at, 10)
+    let a = put_field(out, at, line, b',');
+    let b = put_field(out, a, refusal, b',');
+    let c = put_field(out, b, value, b',');
+    let d = put_field(out, c, masks_at, b',');
+    put_field(out, d, channels_at, b'\n')
 }

@@ -1,23 +1,26 @@
 // Reading a line byte by byte: its length is not bounded, and it may come in chunks.
 ghost use Rattle.std.specs.Prelude.{◌≡◌, List, [], ◌∷◌, ℕ, ◌+◌, ◌<◌, drop, length};
 ghost use Rattle.line.specs.Lines.{command_of, line_in};
-ghost use Rattle.line.specs.Readings.{comma_on, command_in, digit_on, read, read_on};
-ghost use Rattle.line.specs.Readings.{ended as Readings·ended, spoilt as Readings·spoilt};
+ghost use Rattle.line.specs.Readings.{comma_on, command_in, digit_on, fields_on, no_fields, read, read_on, said_by};
 
 use crate::commands::{Command, with_one, with_three};
 
-// What the bytes of a line so far come to: the fields that a comma ended, of which three are kept,
-// the digits of the current field with their value, and whether the line can still be read.
+// The fields of a line: the last three that a comma ended, the newest first, so that each has a
+// fixed place and a register; and the digits of the current one with their value.
+#[derive(Clone, Copy)]
+pub struct Fields {
+    pub ended: [u64; 3],
+    pub commas: usize,
+    pub digits: usize,
+    pub value: u64,
+}
+
+// What the bytes of a line so far come to: its fields, if it can still be read, and whether there
+// was a byte.
 #[derive(Clone, Copy)]
 pub struct Reading {
-    pub commas: u64,
-    pub first: u64,
-    pub second: u64,
-    pub third: u64,
-    pub digits: u64,
-    pub value: u64,
+    pub fields: Option<Fields>,
     pub seen: bool,
-    pub spoiled: bool,
 }
 
 // A reading, with the index of the byte that it stopped at.
@@ -27,11 +30,82 @@ pub struct Taken {
     pub at: usize,
 }
 
-// Digits that may stand before one of the same field.
-const MOST_BEFORE: u64 = 19;
+const MOST_DIGITS: usize = 20;
 
-// 2^64 is ten times this, and 6.
-const MOST_TENTHS: u64 = 1_844_674_407_370_955_161;
+impl Fields {
+    // Of a line without a byte.
+    fn none() -> Fields
+        ensures { result ≡ no_fields }
+    {
+        Fields {
+            ended: [0; 3],
+            commas: 0,
+            digits: 0,
+            value: 0,
+        }
+    }
+
+    // A comma ends the current field; no line has more than four.
+    #[tactic(auto, unfolding(crate::specs::Readings::comma_on))]
+    fn comma(self) -> Option<Fields>
+        ensures { result ≡ comma_on self }
+    {
+        if self.digits == 0 || self.ended.len() <= self.commas {
+            return None;
+        }
+        let [third, second, _] = self.ended;
+        Some(Fields {
+            ended: [self.value, third, second],
+            commas: self.commas + 1,
+            digits: 0,
+            value: 0,
+        })
+    }
+
+    // One more digit, where the field stays within 20 digits and a word.
+    #[tactic(auto, unfolding(crate::specs::Readings::digit_on))]
+    fn digit(self, d: u64) -> Option<Fields>
+        ensures { result ≡ digit_on self d }
+    {
+        if MOST_DIGITS <= self.digits {
+            return None;
+        }
+        let value = self.value.checked_mul(10)?.checked_add(d)?;
+        Some(Fields {
+            digits: self.digits + 1,
+            value,
+            ..self
+        })
+    }
+
+    // One more byte of the line; digits are tested first, since most bytes are.
+    #[tactic(auto, unfolding(crate::specs::Readings::fields_on))]
+    fn byte(self, b: u8) -> Option<Fields>
+        ensures { result ≡ fields_on self b }
+    {
+        match b {
+            b'0'..=b'9' => self.digit((b - b'0') as u64),
+            b',' => self.comma(),
+            _ => None,
+        }
+    }
+
+    // What they say, once the line has ended.
+    #[tactic(auto, unfolding(crate::specs::Readings::said_by))]
+    fn command(self) -> Command
+        ensures { result ≡ said_by self }
+    {
+        let [third, second, first] = self.ended;
+        if self.digits == 0 {
+            return Command::Unreadable;
+        }
+        match self.commas {
+            1 => with_one(third, self.value),
+            3 => with_three(first, second, third, self.value),
+            _ => Command::Unreadable,
+        }
+    }
+}
 
 impl Reading {
     // No byte yet.
@@ -39,120 +113,30 @@ impl Reading {
         ensures { result ≡ read [] }
     {
         Reading {
-            commas: 0,
-            first: 0,
-            second: 0,
-            third: 0,
-            digits: 0,
-            value: 0,
+            fields: Some(Fields::none()),
             seen: false,
-            spoiled: false,
         }
     }
 
-    // Unreadable, whatever follows.
-    fn spoilt() -> Reading
-        ensures { result ≡ Readings·spoilt }
-    {
-        Reading {
-            commas: 0,
-            first: 0,
-            second: 0,
-            third: 0,
-            digits: 0,
-            value: 0,
-            seen: true,
-            spoiled: true,
-        }
-    }
-
-    // Ended fields, and no digit of the next.
-    fn ended(commas: u64, first: u64, second: u64, third: u64) -> Reading
-        ensures { result ≡ Readings·ended commas first second third }
-    {
-        Reading {
-            commas,
-            first,
-            second,
-            third,
-            digits: 0,
-            value: 0,
-            seen: true,
-            spoiled: false,
-        }
-    }
-
-    // A comma ends the current field.
-    fn comma(self) -> Reading
-        ensures { result ≡ comma_on self }
-    {
-        if self.digits == 0 {
-            return Reading::spoilt();
-        }
-        let commas = self.commas;
-        match commas {
-            0 => Reading::ended(1, self.value, 0, 0),
-            1 => Reading::ended(2, self.first, self.value, 0),
-            2 => Reading::ended(3, self.first, self.second, self.value),
-            _ => Reading::spoilt(),
-        }
-    }
-
-    // One more digit, where the field stays within 20 digits and a word.
-    fn digit(self, d: u64) -> Reading
-        requires { d < 10 }
-        ensures { result ≡ digit_on self d }
-    {
-        if MOST_BEFORE < self.digits {
-            return Reading::spoilt();
-        }
-        if MOST_TENTHS < self.value {
-            return Reading::spoilt();
-        }
-        if (self.value == MOST_TENTHS) & (5 < d) {
-            return Reading::spoilt();
-        }
-        Reading {
-            commas: self.commas,
-            first: self.first,
-            second: self.second,
-            third: self.third,
-            digits: self.digits + 1,
-            value: self.value * 10 + d,
-            seen: true,
-            spoiled: self.spoiled,
-        }
-    }
-
-    // One more byte of the line; digits are tested first, since most bytes are.
+    // One more byte of the line.
     pub fn byte(self, b: u8) -> Reading
         ensures { result ≡ read_on self (b ∷ []) }
     {
-        if self.spoiled {
-            return Reading::spoilt();
+        Reading {
+            fields: self.fields.and_then(|f| f.byte(b)),
+            seen: true,
         }
-        if (48 <= b) & (b <= 57) {
-            return self.digit((b - 48) as u64);
-        }
-        if b == 44 {
-            return self.comma();
-        }
-        Reading::spoilt()
     }
 
     // What the line says, once it has ended.
+    #[tactic(auto, using(crate::proofs::ReadLaw::reads), unfolding(crate::specs::Readings::command_in))]
     pub fn command(self) -> Command
         ensures is { result ≡ command_in self }
         ensures reads { (bs : List ℕ) → self ≡ read bs → result ≡ command_of bs }
     {
-        if self.spoiled | (self.digits == 0) {
-            return Command::Unreadable;
-        }
-        let commas = self.commas;
-        match commas {
-            1 => with_one(self.first, self.value),
-            3 => with_three(self.first, self.second, self.third, self.value),
-            _ => Command::Unreadable,
+        match self.fields {
+            Some(fields) => fields.command(),
+            None => Command::Unreadable,
         }
     }
 }
@@ -163,14 +147,15 @@ pub fn take_line(buf: &[u8], at: usize, before: Reading) -> Taken
     ensures stop { result.at ≡ at + length (line_in (drop at buf.now)) }
 {
     let mut reading = before;
-    let mut i = at;
-    while i < buf.len() {
+    for i in at..buf.len() {
         let b = buf[i];
-        if b == 10 {
-            break;
+        if b == b'\n' {
+            return Taken { reading, at: i };
         }
         reading = reading.byte(b);
-        i += 1;
     }
-    Taken { reading, at: i }
+    Taken {
+        reading,
+        at: at.max(buf.len()),
+    }
 }

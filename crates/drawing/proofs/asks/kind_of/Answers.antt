@@ -1,19 +1,14 @@
-use mathlib.Core.Path.{sym, ◌∙◌}
 use Rattle.drawing.specs.Asks.{kind_of}
-use Rattle.drawing.proofs.AskLaw.{same_is}
 use Rattle.drawing.proofs.asks.kind_of.Goals as goal
 
-pub returns-then-same : goal.returns-then-same
+pub returns-then-eq : goal.returns-then-eq
 unfolding kind_of
-returns-then-same c =
-    rw (sym (same_is _ _ c.same.ensures) ∙ c.if-same.true)
+returns-then-eq c = rw (← c.as_slice.ensures, ← c.if-eq.ensures)
 
-pub returns-then-same-2 : goal.returns-then-same-2
+pub returns-then-eq-2 : goal.returns-then-eq-2
 unfolding kind_of
-returns-then-same-2 c =
-    rw (sym (same_is _ _ c.same.ensures) ∙ c.if-same.false, sym (same_is _ _ c.same-2.ensures) ∙ c.if-same-2.true)
+returns-then-eq-2 c = rw (← c.as_slice.ensures, ← c.if-eq.ensures, ← c.as_slice-2.ensures, ← c.if-eq-2.ensures)
 
 pub returns : goal.returns
 unfolding kind_of
-returns c =
-    rw (sym (same_is _ _ c.same.ensures) ∙ c.if-same.false, sym (same_is _ _ c.same-2.ensures) ∙ c.if-same-2.false)
+returns c = rw (← c.as_slice.ensures, ← c.if-eq.ensures, ← c.as_slice-2.ensures, ← c.if-eq-2.ensures)

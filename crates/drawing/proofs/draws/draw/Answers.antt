@@ -4,10 +4,7 @@ use Rattle.drawing.proofs.DrawLaw.{drawn_is, items-lent}
 use Rattle.drawing.proofs.RawLaw.{words-lent}
 use Rattle.drawing.proofs.draws.draw.Goals as goal
 
-pub returns : goal.returns
-returns c =
-    record {
-      lines = drawn_is _ _ _ _ _ _ (words-lent _ _ _ _ c.raw_words-count.ensures.count c.raw_words-count.ensures.words)
-          (items-lent _ _ c.items_for-items.ensures.is (omega arith)) c.draw_run.ensures.lines;
-      short = omega (arith, c.draw_run.ensures.short, c.requires.lines);
-    }
+pub returns-clause-lines : goal.returns-clause-lines
+returns-clause-lines c =
+    drawn_is _ _ _ _ _ _ (words-lent _ _ _ _ c.raw_words-count.ensures.count c.raw_words-count.ensures.words)
+    (items-lent _ _ c.items_for-items.ensures.is (omega arith)) c.draw_run.ensures.lines

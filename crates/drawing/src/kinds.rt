@@ -1,0 +1,6 @@
+// The kinds of tape lines.
+#[derive(Clone, Copy)]
+pub enum Kind {
+    Masks,
+    Dealer,
+}
