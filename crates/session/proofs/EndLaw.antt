@@ -3,16 +3,15 @@ use Prim.Native.Nat.{ℕ, ◌+◌, ◌≤◌, ◌<◌}
 use mathlib.Core.Bool.{false, true}
 use mathlib.Core.List.{List, []}
 use mathlib.Core.Path.{◌≡◌, ap, refl, sym, ◌∙◌}
+use Rattle.std.specs.Prelude.{None, Some}
 use borrow.Author.Tests.{le-ltb, lt-ltb}
-use Rattle.gate.specs.Places.{Place}
 use Rattle.machine.specs.Registers.{million}
+use Rattle.line.specs.Printed.{printed}
 use Rattle.line.specs.Readings.{command_in, started}
 use Rattle.line.specs.declared.commands.Command.{Command}
-use Rattle.session.specs.Kept.{at_line, standing_of, turned_of}
 use Rattle.session.specs.Outputs.{Turned, replied, taken}
+use Rattle.session.specs.declared.replies.Reply.{Reply}
 use Rattle.session.specs.Standings.{Standing, after_end, after_last, line_taken, printed_at, printed_last, standing}
-use Rattle.session.specs.declared.progress.Progress.{Progress}
-use Rattle.session.specs.declared.progress.Turn.{Turn}
 
 module _ (w : Standing) where
   pub late_after : million ≤ w.lines → standing w.state w.lines started ≡ after_end w
@@ -32,6 +31,15 @@ module _ (w : Standing) where
   line-printed t e h =
       rw (lt-ltb w.lines million h) (ap (λ (x : Turned). replied (w.lines + 1) x.state.machine x.reply) (sym e))
 
+  -- and by what it is answered
+  pub printed-silent : (t : Turned) → t ≡ line_taken w → w.lines < million → t.reply ≡ None → printed_at w ≡ []
+  printed-silent t e h none = line-printed t e h ∙ ap (replied (w.lines + 1) t.state.machine) none
+
+  pub printed-reply : (t : Turned) {r : Reply} {masks_at channels_at : ℕ} → t ≡ line_taken w → w.lines < million → t.reply ≡ Some r
+      → masks_at ≡ t.state.machine.masks_at → channels_at ≡ t.state.machine.channels_at
+      → printed_at w ≡ printed (w.lines + 1) r.refusal r.value masks_at channels_at
+  printed-reply t e h some masks channels = rw (masks, channels) (line-printed t e h ∙ ap (replied (w.lines + 1) t.state.machine) some)
+
   -- the end of input
   pub last-seen : w.reading.seen ≡ true → (after_end w ≡ after_last w) × (printed_last w ≡ printed_at w)
   unfolding after_last printed_last
@@ -40,17 +48,6 @@ module _ (w : Standing) where
   pub last_unseen : w.reading.seen ≡ false → (w ≡ after_last w) × (printed_last w ≡ [])
   unfolding after_last printed_last
   last_unseen e = rw e (refl, refl)
-
--- said of what the code keeps
-module _ (ws t₀ t₁ t₂ dealer : List ℕ) (c : Place → List ℕ) where
-  pub late_kept : (p q : Progress) → q ≡ at_line p.counts p.lines → million ≤ p.lines
-      → standing_of q ws t₀ t₁ t₂ dealer c ≡ after_end (standing_of p ws t₀ t₁ t₂ dealer c)
-  late_kept p q e h = ap (λ (x : Progress). standing_of x ws t₀ t₁ t₂ dealer c) e ∙ late_after (standing_of p ws t₀ t₁ t₂ dealer c) h
-
-  pub line_kept : (w : Standing) (t : Turn) (q : Progress) → q ≡ at_line t.counts (w.lines + 1)
-      → turned_of t ws t₀ t₁ t₂ dealer c ≡ line_taken w → w.lines < million → standing_of q ws t₀ t₁ t₂ dealer c ≡ after_end w
-  line_kept w t q e is h =
-      ap (λ (x : Progress). standing_of x ws t₀ t₁ t₂ dealer c) e ∙ line_after w (turned_of t ws t₀ t₁ t₂ dealer c) is h
 
 -- by the command that was read
 pub by_reading : {t : Turned} {k : Command} (w : Standing) → k ≡ command_in w.reading → t ≡ taken w.state k → t ≡ line_taken w

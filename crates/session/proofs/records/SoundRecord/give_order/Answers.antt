@@ -1,0 +1,22 @@
+-- The step on the record's words and the tape lines taken.
+use mathlib.Core.Path.{◌≡◌, refl, sym}
+use Rattle.gate.specs.Places.{three}
+use Rattle.session.specs.Kept.{tapes_in}
+use Rattle.session.specs.Outputs.{tapes}
+use Rattle.session.specs.Records.{machine_in}
+use Rattle.session.proofs.TurnLaw.{order-fits, order-taken}
+use Rattle.session.proofs.records.SoundRecord.give_order.Goals as goal
+
+pub invariant_of-self : goal.invariant_of-self
+invariant_of-self c =
+    let r = c.self in
+    let told = c.step_words-answer.ensures.is (machine_in r.inside.words) r.invariant.says (sym r.invariant.sound) in
+    order-fits _ _ _ _ _ _ _ told r.invariant
+
+pub returns : goal.returns
+returns c =
+    let r = c.self in
+    let told = c.step_words-answer.ensures.is (machine_in r.inside.words) r.invariant.says (sym r.invariant.sound) in
+    let lent : tapes c.m0.result.now c.m1.result.now c.m2.result.now c.dealer.result.now ≡ tapes_in c.args.tapes.now
+    = rw (c.m0.ensures, c.m1.ensures, c.m2.ensures, c.dealer.ensures) refl in
+    order-taken _ _ _ _ _ _ _ told r.view_is lent c.refusal.ensures c.value.ensures
