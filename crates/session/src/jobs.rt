@@ -1,6 +1,7 @@
 // The lines of a chunk of input, one after the other.
-ghost use Rattle.std.specs.Prelude.{◌≡◌, ◌+◌, ◌*◌, ◌≤◌, ◌<◌, drop, length};
+ghost use Rattle.std.specs.Prelude.{◌≡◌, ◌+◌, ◌*◌, ◌≤◌, ◌<◌, drop, length, ltb};
 ghost use Rattle.line.specs.Printed.{Wrote};
+ghost use Rattle.machine.specs.Registers.{million};
 ghost use Rattle.session.specs.Kept.{standing_of};
 ghost use Rattle.session.specs.Standings.{Advanced, after_bytes, after_end, after_last, begun, printed_at, printed_by, printed_last};
 
@@ -8,7 +9,10 @@ use crate::states::Kept;
 use line::{Reading, print_line, take_line};
 
 // 01: "Reading stops after line 1,000,000".
-pub const LAST_LINE: u64 = 1_000_000;
+const LAST_LINE: u64 = 1_000_000;
+
+// No line prints more bytes.
+pub const MOST_PRINTED: usize = 105;
 
 // A job: what the lines so far left, how many there were, and what was read of the next.
 #[derive(Drop)]
@@ -30,19 +34,19 @@ impl Job {
         }
     }
 
-    // The lines that have ended.
-    pub fn lines(&self) -> u64
-        ensures { result ≡ (standing_of self.now).lines }
+    // Whether another line would be read.
+    pub fn reads_on(&self) -> bool
+        ensures { result ≡ ltb (standing_of self.now).lines million }
     {
-        self.lines
+        self.lines < LAST_LINE
     }
 
     // The end of a line: does what it says, prints the reply at `at`, and answers the place after it.
     fn end_line(&mut self, out: &mut [u8], at: usize) -> usize
-        requires room { at + 105 ≤ length out.old }
+        requires room { at + MOST_PRINTED ≤ length out.old }
         ensures is { standing_of self.new ≡ after_end (standing_of self.old) }
         ensures writes { Wrote at (printed_at (standing_of self.old)) out.old out.new result }
-        ensures short { result ≤ at + 105 }
+        ensures short { result ≤ at + MOST_PRINTED }
     {
         let command = self.reading.command();
         self.reading = Reading::start();
@@ -68,11 +72,11 @@ impl Job {
     // Answers the byte that comes next, and the place after what was printed.
     fn take_one(&mut self, buf: &[u8], i: usize, out: &mut [u8], at: usize) -> (usize, usize)
         requires inside { i < length buf.now }
-        requires room { at + 105 ≤ length out.old }
+        requires room { at + MOST_PRINTED ≤ length out.old }
         ensures is { Advanced (standing_of self.old) (drop i buf.now) (standing_of self.new) (drop result.0 buf.now) at out.old out.new result.1 }
         ensures further { i < result.0 }
         ensures within { result.0 ≤ length buf.now }
-        ensures short { result.1 + 105 * i ≤ at + 105 * result.0 }
+        ensures short { result.1 + MOST_PRINTED * i ≤ at + MOST_PRINTED * result.0 }
     {
         let taken = take_line(buf, i, self.reading);
         let stop = taken.at;
@@ -85,13 +89,14 @@ impl Job {
 
     // A chunk of input: what it prints stands at the start of `out`, as long as the answer.
     pub fn feed(&mut self, buf: &[u8], out: &mut [u8]) -> usize
-        requires room { 105 * length buf.now ≤ length out.old }
+        requires room { MOST_PRINTED * length buf.now ≤ length out.old }
         ensures is { standing_of self.new ≡ after_bytes (standing_of self.old) buf.now }
         ensures writes { Wrote 0 (printed_by (standing_of self.old) buf.now) out.old out.new result }
         ensures within { result ≤ length out.new }
     {
         let mut i = 0;
         let mut at = 0;
+        // The index moves on by lines, whose ends are found as they are read.
         while i < buf.len() {
             (i, at) = self.take_one(buf, i, out, at);
         }
@@ -100,7 +105,7 @@ impl Job {
 
     // The end of input: a line of which a byte was seen ends here.
     pub fn finish(&mut self, out: &mut [u8]) -> usize
-        requires room { 105 ≤ length out.old }
+        requires room { MOST_PRINTED ≤ length out.old }
         ensures is { standing_of self.new ≡ after_last (standing_of self.old) }
         ensures writes { Wrote 0 (printed_last (standing_of self.old)) out.old out.new result }
         ensures within { result ≤ length out.new }

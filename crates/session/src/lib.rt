@@ -7,5 +7,4 @@ mod replies;
 mod states;
 mod tapes;
 
-pub use jobs::{Job, LAST_LINE};
-pub use replies::Reply;
+pub use jobs::{Job, MOST_PRINTED};

@@ -32,6 +32,7 @@ impl Model for SoundRecord {
 
 // Where the positions on mask tapes and channels stand in the words.
 const MASKS_AT: usize = 80;
+
 const CHANNELS_AT: usize = 81;
 
 impl SoundRecord {
@@ -63,10 +64,22 @@ impl SoundRecord {
         c1: &mut [u64],
         c2: &mut [u64],
     ) -> Reply
-        ensures { turned (state self.new (tapes_in tapes.now) (at_exit c0 c1 c2)) (Some result) ≡ ordered (state self.old (tapes_in tapes.now) (at_entry_mut c0 c1 c2)) o }
+        ensures { turned (state self.new (tapes_in tapes.now) (at_exit c0 c1 c2)) (Some result)
+            ≡ ordered (state self.old (tapes_in tapes.now) (at_entry_mut c0 c1 c2)) o }
     {
         let words = &mut self.words;
-        let answer = step_words(true, o, words, tapes.m0(), tapes.m1(), tapes.m2(), tapes.dealer(), c0, c1, c2);
+        let answer = step_words(
+            true,
+            o,
+            words,
+            tapes.m0.as_slice(),
+            tapes.m1.as_slice(),
+            tapes.m2.as_slice(),
+            tapes.dealer.as_slice(),
+            c0,
+            c1,
+            c2,
+        );
         Reply {
             refusal: refusal(answer),
             value: value(answer),

@@ -39,13 +39,10 @@ impl Kept {
         match command {
             Command::Masks { t0, t1, t2 } => self.tapes.add_masks(t0, t1, t2),
             Command::Dealer { item } => self.tapes.add_item(item),
-            Command::Order(o) => Some(self.record.give_order(
-                o,
-                &self.tapes,
-                &mut self.c0,
-                &mut self.c1,
-                &mut self.c2,
-            )),
+            Command::Order(o) => Some(
+                self.record
+                    .give_order(o, &self.tapes, &mut self.c0, &mut self.c1, &mut self.c2),
+            ),
             Command::Unreadable => Some(Reply::declined()),
         }
     }

@@ -10,10 +10,10 @@ const MOST: usize = 512;
 // The items taken so far, as many for each mask tape.
 #[derive(Drop)]
 pub struct TapeLines {
-    m0: ArrayVec<u64, MOST>,
-    m1: ArrayVec<u64, MOST>,
-    m2: ArrayVec<u64, MOST>,
-    dealer: ArrayVec<u64, MOST>,
+    pub m0: ArrayVec<u64, MOST>,
+    pub m1: ArrayVec<u64, MOST>,
+    pub m2: ArrayVec<u64, MOST>,
+    pub dealer: ArrayVec<u64, MOST>,
     ghost one: { length m1.items ≡ length m0.items },
     ghost two: { length m2.items ≡ length m0.items },
 }
@@ -59,30 +59,5 @@ impl TapeLines {
         }
         self.dealer.push(item);
         None
-    }
-
-    // The items of each tape.
-    pub fn m0(&self) -> &[u64]
-        ensures { result.now ≡ self.now.m0.items }
-    {
-        self.m0.as_slice()
-    }
-
-    pub fn m1(&self) -> &[u64]
-        ensures { result.now ≡ self.now.m1.items }
-    {
-        self.m1.as_slice()
-    }
-
-    pub fn m2(&self) -> &[u64]
-        ensures { result.now ≡ self.now.m2.items }
-    {
-        self.m2.as_slice()
-    }
-
-    pub fn dealer(&self) -> &[u64]
-        ensures { result.now ≡ self.now.dealer.items }
-    {
-        self.dealer.as_slice()
     }
 }

@@ -17,6 +17,6 @@ pub returns : goal.returns
 returns c =
     let r = c.self in
     let told = c.step_words-answer.ensures.is (machine_in r.inside.words) r.invariant.says (sym r.invariant.sound) in
-    let lent : tapes c.m0.result.now c.m1.result.now c.m2.result.now c.dealer.result.now ≡ tapes_in c.args.tapes.now
-    = rw (c.m0.ensures, c.m1.ensures, c.m2.ensures, c.dealer.ensures) refl in
+    let lent : tapes c.as_slice.result.now c.as_slice-2.result.now c.as_slice-3.result.now c.as_slice-4.result.now ≡ tapes_in c.args.tapes.now
+    = rw (c.as_slice.ensures.value, c.as_slice-2.ensures.value, c.as_slice-3.ensures.value, c.as_slice-4.ensures.value) refl in
     order-taken _ _ _ _ _ _ _ told r.view_is lent c.refusal.ensures c.value.ensures
