@@ -1,8 +1,11 @@
 // What a chunk of input was answered: how many bytes of it were read, or what failed.
 ghost use Rattle.std.specs.Prelude.{◌≡◌};
+ghost use Rattle.session.specs.Kept.{standing_of};
 ghost use Rattle.survey.specs.Chunks.{goes_on};
+ghost use Rattle.survey.specs.declared.chunks.Failure.TheVariants.{Unread};
 
-use session::LAST_LINE;
+use session::Job;
+use std::io;
 
 // What the system could not do: read a chunk, or write what so many bytes of it print.
 #[derive(Clone, Copy)]
@@ -11,12 +14,21 @@ pub enum Failure {
     Unwritten(usize),
 }
 
+// A read that failed.
+impl From<io::Error> for Failure {
+    ghost from_gives = { λ _ failure. failure ≡ Unread };
+
+    fn from(_: io::Error) -> Failure {
+        Failure::Unread
+    }
+}
+
 // Whether there is another chunk to read.
-pub fn goes_on(last: Result<usize, Failure>, lines: u64) -> bool
-    ensures { result ≡ goes_on last lines }
+pub fn goes_on(last: Result<usize, Failure>, job: &Job) -> bool
+    ensures { result ≡ goes_on last (standing_of job.now).lines }
 {
     match last {
-        Ok(n) => (0 < n) & (lines < LAST_LINE),
+        Ok(n) => (0 < n) & job.reads_on(),
         Err(_) => false,
     }
 }

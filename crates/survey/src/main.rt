@@ -3,30 +3,18 @@
 
 mod chunks;
 
-ghost use Rattle.std.specs.Prelude.{IfOk, OnErr, ◌≡◌, ◌*◌, ◌≤◌, ◌<◌, length};
+ghost use Rattle.std.specs.Prelude.{◌≡◌, ◌*◌, ◌≤◌, ◌<◌, length};
 ghost use Rattle.session.specs.Kept.{standing_of};
 ghost use Rattle.session.specs.Standings.{begun};
 ghost use Rattle.survey.specs.Chunks.{Ran, Reached, Took};
-ghost use Rattle.survey.specs.declared.chunks.Failure.TheVariants.{Unread};
 
 use chunks::{Failure, goes_on};
-use session::Job;
+use session::{Job, MOST_PRINTED};
 use std::io::Read;
 
 // Writes what was printed.
 fn write_out(rt: HostRuntime, bytes: &[u8]) -> bool {
     streams::write(rt, b"survey: standard output", bytes)
-}
-
-// Reads once, and answers how many bytes that brought, 0 at the end of input.
-fn read_in(rt: HostRuntime, buf: &mut [u8]) -> Result<usize, Failure>
-    ensures long { length buf.new ≡ length buf.old }
-    ensures within { IfOk result (λ n. n ≤ length buf.new) }
-    ensures failed { OnErr result (result ≡ Err Unread) }
-{
-    let read = rt.stdin().read(buf);
-    streams::tell_unread(rt, b"survey: standard input", &read);
-    read.map_err(|_| Failure::Unread)
 }
 
 // Reads once, and writes what the lines of it print.
@@ -37,10 +25,12 @@ fn take_chunk(
     out: &mut [u8],
 ) -> Result<usize, Failure>
     requires some { 0 < length buf.old }
-    requires room { 105 * length buf.old ≤ length out.old }
+    requires room { MOST_PRINTED * length buf.old ≤ length out.old }
     ensures took { Took (standing_of job.old) (standing_of job.new) result buf.new out.old out.new }
 {
-    let n = read_in(rt, buf)?;
+    let read = rt.stdin().read(buf);
+    streams::tell_unread(rt, b"survey: standard input", &read);
+    let n = read?;
     let at = job.feed(&buf[0..n], out);
     if !write_out(rt, &out[0..at]) {
         return Err(Failure::Unwritten(n));
@@ -57,29 +47,24 @@ fn take_input(
 ) -> Result<usize, Failure>
     requires begins { standing_of job.old ≡ begun }
     requires some { 0 < length buf.old }
-    requires room { 105 * length buf.old ≤ length out.old }
+    requires room { MOST_PRINTED * length buf.old ≤ length out.old }
     ensures reached { Reached (standing_of job.new) result buf.new }
 {
     let mut last = Ok(0);
     for _ in 0..u64::MAX {
         last = take_chunk(rt, job, buf, out);
-        if !goes_on(last, job.lines()) {
-            break;
+        if !goes_on(last, job) {
+            return last;
         }
     }
     last
 }
 
 // A whole job: all chunks, then the end of input, if all before it could be read and written.
-fn run_job(
-    rt: HostRuntime,
-    job: &mut Job,
-    buf: &mut [u8],
-    out: &mut [u8],
-) -> Result<usize, Failure>
+fn run_job(rt: HostRuntime, job: &mut Job, buf: &mut [u8], out: &mut [u8]) -> Result<usize, Failure>
     requires begins { standing_of job.old ≡ begun }
     requires some { 0 < length buf.old }
-    requires room { 105 * length buf.old ≤ length out.old }
+    requires room { MOST_PRINTED * length buf.old ≤ length out.old }
     ensures ran { Ran (standing_of job.new) result buf.new out.new }
 {
     let last = take_input(rt, job, buf, out);
@@ -91,9 +76,12 @@ fn run_job(
     last
 }
 
+// How many bytes are read at once.
+const CHUNK: usize = 2496;
+
 fn main(rt: HostRuntime) {
     let mut job = Job::new();
-    let mut buf = [0u8; 2496];
-    let mut out = [0u8; 262080];
+    let mut buf = [0u8; CHUNK];
+    let mut out = [0u8; MOST_PRINTED * CHUNK];
     let _ = run_job(rt, &mut job, &mut buf, &mut out);
 }
