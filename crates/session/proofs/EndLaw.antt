@@ -1,7 +1,7 @@
 -- The end of a line, up to line 1,000,000 and after it.
 use Prim.Native.Nat.{ℕ, ◌+◌, ◌≤◌, ◌<◌}
 use mathlib.Core.Bool.{false, true}
-use mathlib.Core.List.{List, []}
+use mathlib.Core.List.{[]}
 use mathlib.Core.Path.{◌≡◌, ap, refl, sym, ◌∙◌}
 use Rattle.std.specs.Prelude.{None, Some}
 use borrow.Author.Tests.{le-ltb, lt-ltb}

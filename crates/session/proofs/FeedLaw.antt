@@ -1,7 +1,6 @@
 -- What stays true while a chunk is read.
 use Prim.Native.Nat.{ℕ, ◌*◌, ◌≤◌}
 use mathlib.Core.List.{List}
-use mathlib.Core.Path.{◌≡◌}
 use lib.ListN.{drop, length}
 use Rattle.session.specs.Standings.{Advanced, Standing}
 

@@ -1,7 +1,7 @@
 -- Nothing written, and the same bytes written.
 use Prim.Native.Nat.{ℕ}
 use mathlib.Core.List.{List, []}
-use mathlib.Core.Path.{◌≡◌, refl, subst, sym}
+use mathlib.Core.Path.{◌≡◌, subst, sym}
 use native.Mathlib.Nat.{add-zero}
 use lib.ListN.{take-append-drop}
 use Rattle.line.specs.Printed.{Wrote}

@@ -1,7 +1,7 @@
 -- What a tape line leaves, where it is taken and where 512 were taken before; and what an order leaves.
 use Prim.Native.Nat.{ℕ, ◌≤◌, ◌<◌}
 use mathlib.Core.List.{List, [], ◌∷◌, ◌++◌}
-use mathlib.Core.Path.{◌≡◌, ap, ap₂, refl, sym, ◌∙◌}
+use mathlib.Core.Path.{◌≡◌, ap, ap₂, refl, ◌∙◌}
 use borrow.Author.Tests.{le-ltb, lt-ltb}
 use lib.ListN.{length}
 use Rattle.std.specs.Prelude.{None}

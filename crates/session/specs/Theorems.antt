@@ -1,7 +1,7 @@
 -- Facts about what whole jobs print, for all bytes of input. Proofs: proofs/Theorems.antt.
 use Rattle.std.specs.Prelude.{ℕ, ◌+◌, ◌≤◌, ◌≡◌, length, replicate}
 use mathlib.Core.List.{List, [], ◌∷◌, ◌++◌, flatten, map}
-use Rattle.gate.specs.Places.{Place, p0, three}
+use Rattle.gate.specs.Places.{Place, p0}
 use Rattle.machine.specs.Checks.{Tapes}
 use Rattle.machine.specs.Registers.{empty_machine, million}
 use Rattle.machine.specs.declared.registers.Machine.{Machine}

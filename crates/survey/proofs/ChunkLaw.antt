@@ -1,7 +1,7 @@
 -- A chunk by its bytes, and the end of input.
 use Prim.Native.Nat.{ℕ}
 use mathlib.Core.Bool.{false, true}
-use mathlib.Core.List.{List, []}
+use mathlib.Core.List.{List}
 use mathlib.Core.Path.{◌≡◌, refl}
 use Rattle.std.specs.Prelude.{Err}
 use Rattle.line.specs.Printed.{Wrote}

@@ -3,7 +3,7 @@ use Prim.Native.Nat.{◌<◌}
 use mathlib.Core.Path.{refl, sym}
 use native.Mathlib.Omega.{arith}
 use lib.ListN.{length}
-use Rattle.survey.proofs.LoopLaw.{first, going, onward, over, used_up}
+use Rattle.survey.proofs.LoopLaw.{first, going, onward, over}
 use Rattle.survey.proofs.Program.take_input.Goals as goal
 
 pub loop-init : goal.loop-init
@@ -17,6 +17,3 @@ loop-preserved c =
 pub returns-then-not-goes_on : goal.returns-then-not-goes_on
 returns-then-not-goes_on c =
     over (going c.loop.invariant) c.take_chunk-last.ensures.took.after (sym c.if-not-goes_on.ensures)
-
-pub returns : goal.returns
-returns c = used_up c.loop.invariant c.loop-test.false

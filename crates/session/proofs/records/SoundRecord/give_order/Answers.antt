@@ -1,6 +1,5 @@
 -- The step on the record's words and the tape lines taken.
 use mathlib.Core.Path.{◌≡◌, refl, sym}
-use Rattle.gate.specs.Places.{three}
 use Rattle.session.specs.Kept.{tapes_in}
 use Rattle.session.specs.Outputs.{tapes}
 use Rattle.session.specs.Records.{machine_in}
