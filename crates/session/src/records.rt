@@ -1,4 +1,4 @@
-// A job's record: 83 words that say a sound one, since every order leaves it sound.
+// A job's record, in words that say a sound one, since every order leaves it sound.
 ghost use Rattle.std.specs.Prelude.{◌≡◌};
 ghost use Rattle.gate.specs.Lent.{at_entry_mut, at_exit};
 ghost use Rattle.machine.specs.Registers.{empty_machine};
@@ -12,10 +12,17 @@ use order::{refusal, value};
 use std::marker::Model;
 use step::step_words;
 
+// How many words a record has, and where its positions on mask tapes and channels stand in them.
+const WORDS: usize = 83;
+
+const MASKS_AT: usize = 80;
+
+const CHANNELS_AT: usize = 81;
+
 // The record in words, seen as the record that they say.
 #[derive(Drop)]
 pub struct SoundRecord {
-    words: [u64; 83],
+    words: [u64; WORDS],
 }
 
 impl Model for SoundRecord {
@@ -30,25 +37,22 @@ impl Model for SoundRecord {
     ghost invariant = { λ r. RecordFits r.words };
 }
 
-// Where the positions on mask tapes and channels stand in the words.
-const MASKS_AT: usize = 80;
-
-const CHANNELS_AT: usize = 81;
-
 impl SoundRecord {
     // Empty registers, zero positions.
     pub fn empty() -> SoundRecord
         ensures { result ≡ empty_machine }
     {
-        SoundRecord { words: [0; 83] }
+        SoundRecord { words: [0; WORDS] }
     }
 
+    // Its position on the mask tapes.
     pub fn masks_at(&self) -> u64
         ensures { result ≡ self.now.masks_at }
     {
         self.words[MASKS_AT]
     }
 
+    // And on the channels.
     pub fn channels_at(&self) -> u64
         ensures { result ≡ self.now.channels_at }
     {

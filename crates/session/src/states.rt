@@ -8,14 +8,17 @@ use crate::replies::Reply;
 use crate::tapes::TapeLines;
 use line::Command;
 
-// The record, the tape lines taken, and 01's "wires of 1,024 words".
+// 01: "wires of 1,024 words".
+const WIRE: usize = 1024;
+
+// The record, the tape lines taken and the wires, in fixed memory.
 #[derive(Drop)]
 pub struct Kept {
     pub record: SoundRecord,
     tapes: TapeLines,
-    c0: [u64; 1024],
-    c1: [u64; 1024],
-    c2: [u64; 1024],
+    c0: [u64; WIRE],
+    c1: [u64; WIRE],
+    c2: [u64; WIRE],
 }
 
 impl Kept {
@@ -26,9 +29,9 @@ impl Kept {
         Kept {
             record: SoundRecord::empty(),
             tapes: TapeLines::new(),
-            c0: [0; 1024],
-            c1: [0; 1024],
-            c2: [0; 1024],
+            c0: [0; WIRE],
+            c1: [0; WIRE],
+            c2: [0; WIRE],
         }
     }
 

@@ -39,7 +39,8 @@ impl TapeLines {
 
     // 01: "Kind 0 adds t0,t1,t2 to the strands".
     pub fn add_masks(&mut self, t0: u64, t1: u64, t2: u64) -> Option<Reply>
-        ensures { (m : Machine) (c : Place → List ℕ) → turned (state m (tapes_in self.new) c) result ≡ masks_taken (state m (tapes_in self.old) c) t0 t1 t2 }
+        ensures { (m : Machine) (c : Place → List ℕ) → turned (state m (tapes_in self.new) c) result
+            ≡ masks_taken (state m (tapes_in self.old) c) t0 t1 t2 }
     {
         if self.m0.is_full() {
             return Some(Reply::declined());
@@ -52,7 +53,8 @@ impl TapeLines {
 
     // 01: "kind 10 adds one dealer item".
     pub fn add_item(&mut self, item: u64) -> Option<Reply>
-        ensures { (m : Machine) (c : Place → List ℕ) → turned (state m (tapes_in self.new) c) result ≡ item_taken (state m (tapes_in self.old) c) item }
+        ensures { (m : Machine) (c : Place → List ℕ) → turned (state m (tapes_in self.new) c) result
+            ≡ item_taken (state m (tapes_in self.old) c) item }
     {
         if self.dealer.is_full() {
             return Some(Reply::declined());
