@@ -31,15 +31,6 @@ module _ (w : Standing) where
   line-printed t e h =
       rw (lt-ltb w.lines million h) (ap (λ (x : Turned). replied (w.lines + 1) x.state.machine x.reply) (sym e))
 
-  -- and by what it is answered
-  pub printed-silent : (t : Turned) → t ≡ line_taken w → w.lines < million → t.reply ≡ None → printed_at w ≡ []
-  printed-silent t e h none = line-printed t e h ∙ ap (replied (w.lines + 1) t.state.machine) none
-
-  pub printed-reply : (t : Turned) {r : Reply} {masks_at channels_at : ℕ} → t ≡ line_taken w → w.lines < million → t.reply ≡ Some r
-      → masks_at ≡ t.state.machine.masks_at → channels_at ≡ t.state.machine.channels_at
-      → printed_at w ≡ printed (w.lines + 1) r.refusal r.value masks_at channels_at
-  printed-reply t e h some masks channels = rw (masks, channels) (line-printed t e h ∙ ap (replied (w.lines + 1) t.state.machine) some)
-
   -- the end of input
   pub last-seen : w.reading.seen ≡ true → (after_end w ≡ after_last w) × (printed_last w ≡ printed_at w)
   unfolding after_last printed_last
@@ -49,6 +40,19 @@ module _ (w : Standing) where
   unfolding after_last printed_last
   last_unseen e = rw e (refl, refl)
 
--- by the command that was read
-pub by_reading : {t : Turned} {k : Command} (w : Standing) → k ≡ command_in w.reading → t ≡ taken w.state k → t ≡ line_taken w
-by_reading w e is = is ∙ ap (taken w.state) e
+-- a line up to line 1,000,000, by the command that was read: where the job stands then, and what is printed of no reply and of one
+module _ (w : Standing) {k : Command} {t : Turned} (reads : k ≡ command_in w.reading) (does : t ≡ taken w.state k) (early : w.lines < million) where
+  is : t ≡ line_taken w
+  is = does ∙ ap (taken w.state) reads
+
+  pub line_kept : standing t.state (w.lines + 1) started ≡ after_end w
+  line_kept = line_after w t is early
+
+  pub none-printed : t.reply ≡ None → printed_at w ≡ []
+  none-printed none = line-printed w t is early ∙ ap (replied (w.lines + 1) t.state.machine) none
+
+  pub reply-printed : {r : Reply} {masks_at channels_at : ℕ} → t.reply ≡ Some r
+      → masks_at ≡ t.state.machine.masks_at → channels_at ≡ t.state.machine.channels_at
+      → printed_at w ≡ printed (w.lines + 1) r.refusal r.value masks_at channels_at
+  reply-printed some masks channels =
+      rw (masks, channels) (line-printed w t is early ∙ ap (replied (w.lines + 1) t.state.machine) some)
