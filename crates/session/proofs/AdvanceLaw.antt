@@ -1,7 +1,7 @@
 -- Parts of a chunk, put together to the chunk.
 use Prim.Native.Nat.{ℕ, suc, ◌+◌, ◌≤◌, ◌<◌}
 use mathlib.Core.List.{List, [], ◌++◌, append_assoc, append-nil}
-use mathlib.Core.Path.{◌≡◌, ap, refl, sym, ◌∙◌}
+use mathlib.Core.Path.{◌≡◌, ap, sym, ◌∙◌}
 use native.Mathlib.Omega.{arith}
 use lib.ListN.{drop, drop_of_length-le, length, length-drop}
 use lib.Seq.{drop-drop}
@@ -47,10 +47,6 @@ module _ (w : Standing) (buf : List ℕ) (i stop : ℕ) (r : Reading) (read : r 
         after = rw (e, read, ← rest) closed.1;
         wrote = wrote;
       }
-
--- no part yet
-pub advanced_none : (w : Standing) (xs : List ℕ) (at : ℕ) (out : List ℕ) → Advanced w xs w xs at out out at
-advanced_none w xs at out = record { bytes = []; printed = refl; after = refl; wrote = wrote_none at out }
 
 -- one more
 pub advanced_on : {w v u : Standing} {xs ys zs entry between exit : List ℕ} {at next last : ℕ}

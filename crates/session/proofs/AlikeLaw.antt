@@ -1,6 +1,7 @@
 -- Lines that are alike make jobs that are alike, and print the same where one party sees the same (specs/Course.antt).
 use Prim.Native.Nat.{ℕ, suc, ◌+◌}
 use mathlib.Core.List.{List, [], ◌∷◌, ◌++◌, cons≢nil, flatten, head-eq_of_cons-eq, map, nil≢cons, tail-eq_of_cons-eq}
+use Rattle.std.specs.Prelude.{None, Option, Some}
 use mathlib.Core.Path.{◌≡◌, ap, ap₂, fun_ext, refl}
 use lib.ListN.{length, length-append, length-take, take}
 use Rattle.gate.specs.Places.{Place, p0}
@@ -11,10 +12,9 @@ use Rattle.act.specs.Jobs.{AlikeLists, Outcome, View, view_of}
 use Rattle.protocol.specs.Orders.{Seen, orders, seen_by}
 use Rattle.line.specs.declared.commands.Command.{Command}
 use Rattle.session.specs.Course.{AlikeCommands, AlikeSaid, entries_from, item_of, mask_of, printed_of, tape_reply, tapes_of}
-use Rattle.session.specs.Outputs.{most, replied}
+use Rattle.session.specs.Outputs.{declined13, most, replied, says}
 use Rattle.session.specs.Theorems as theorem
 use Rattle.session.specs.declared.replies.Reply.{Reply}
-use Rattle.session.specs.declared.replies.Reply.TheVariants.{Says, Silent}
 
 -- one more line
 pub one_more : {ks ks' : List Command} {k k' : Command} → AlikeSaid ks ks' → AlikeCommands k k'
@@ -90,9 +90,9 @@ module _ (U : Place) where
       → printed_of above m ks xs ≡ printed_of above' n ks' ys
 
   module _ {above above' : List Command} (over : AlikeSaid above above') where
-    replied-seen : (m n : Machine) → seen_by U m ≡ seen_by U n → (r : Reply) → replied (length above + 1) m r ≡ replied (length above' + 1) n r
-    replied-seen m n same Silent = refl
-    replied-seen m n same (Says refusal value) =
+    replied-seen : (m n : Machine) → seen_by U m ≡ seen_by U n → (r : Option Reply) → replied (length above + 1) m r ≡ replied (length above' + 1) n r
+    replied-seen m n same None = refl
+    replied-seen m n same (Some r) =
         rw (lines_long over, ap (λ (s : Seen). s.public.masks_at) same, ap (λ (s : Seen). s.public.channels_at) same) refl
 
     printed-one : (ks ks' : List Command) {k k' : Command} → AlikeCommands k k'
@@ -111,10 +111,10 @@ module _ (U : Place) where
         let first = head-eq_of_cons-eq views in
         let seen = ap (λ (v : View Seen). v.seen) first in
         rw (ap (λ (v : View Seen). v.refusal) first, ap (λ (v : View Seen). v.value) first)
-        (ap₂ ◌++◌ (replied-seen x.state y.state seen (Says y.refusal y.value))
+        (ap₂ ◌++◌ (replied-seen x.state y.state seen (says y.refusal y.value))
         (onward x.state y.state seen xs ys (tail-eq_of_cons-eq views)))
     printed-one ks ks' AlikeCommands.unreadable onward m n same xs ys views =
-        ap₂ ◌++◌ (replied-seen m n same (Says 13 0)) (onward m n same xs ys views)
+        ap₂ ◌++◌ (replied-seen m n same declined13) (onward m n same xs ys views)
 
   printed_from : {above above' ks ks' : List Command} → AlikeSaid above above' → AlikeSaid ks ks' → PrintSame above above' ks ks'
   unfolding printed_of

@@ -1,18 +1,17 @@
 -- The end of a line, up to line 1,000,000 and after it.
 use Prim.Native.Nat.{ℕ, ◌+◌, ◌≤◌, ◌<◌}
 use mathlib.Core.Bool.{false, true}
-use mathlib.Core.List.{List, []}
+use mathlib.Core.List.{[]}
 use mathlib.Core.Path.{◌≡◌, ap, refl, sym, ◌∙◌}
+use Rattle.std.specs.Prelude.{None, Some}
 use borrow.Author.Tests.{le-ltb, lt-ltb}
-use Rattle.gate.specs.Places.{Place}
 use Rattle.machine.specs.Registers.{million}
+use Rattle.line.specs.Printed.{printed}
 use Rattle.line.specs.Readings.{command_in, started}
 use Rattle.line.specs.declared.commands.Command.{Command}
-use Rattle.session.specs.Kept.{at_line, standing_of, turned_of}
 use Rattle.session.specs.Outputs.{Turned, replied, taken}
+use Rattle.session.specs.declared.replies.Reply.{Reply}
 use Rattle.session.specs.Standings.{Standing, after_end, after_last, line_taken, printed_at, printed_last, standing}
-use Rattle.session.specs.declared.progress.Progress.{Progress}
-use Rattle.session.specs.declared.progress.Turn.{Turn}
 
 module _ (w : Standing) where
   pub late_after : million ≤ w.lines → standing w.state w.lines started ≡ after_end w
@@ -41,17 +40,19 @@ module _ (w : Standing) where
   unfolding after_last printed_last
   last_unseen e = rw e (refl, refl)
 
--- said of what the code keeps
-module _ (ws t₀ t₁ t₂ dealer : List ℕ) (c : Place → List ℕ) where
-  pub late_kept : (p q : Progress) → q ≡ at_line p.counts p.lines → million ≤ p.lines
-      → standing_of q ws t₀ t₁ t₂ dealer c ≡ after_end (standing_of p ws t₀ t₁ t₂ dealer c)
-  late_kept p q e h = ap (λ (x : Progress). standing_of x ws t₀ t₁ t₂ dealer c) e ∙ late_after (standing_of p ws t₀ t₁ t₂ dealer c) h
+-- a line up to line 1,000,000, by the command that was read: where the job stands then, and what is printed of no reply and of one
+module _ (w : Standing) {k : Command} {t : Turned} (reads : k ≡ command_in w.reading) (does : t ≡ taken w.state k) (early : w.lines < million) where
+  is : t ≡ line_taken w
+  is = does ∙ ap (taken w.state) reads
 
-  pub line_kept : (w : Standing) (t : Turn) (q : Progress) → q ≡ at_line t.counts (w.lines + 1)
-      → turned_of t ws t₀ t₁ t₂ dealer c ≡ line_taken w → w.lines < million → standing_of q ws t₀ t₁ t₂ dealer c ≡ after_end w
-  line_kept w t q e is h =
-      ap (λ (x : Progress). standing_of x ws t₀ t₁ t₂ dealer c) e ∙ line_after w (turned_of t ws t₀ t₁ t₂ dealer c) is h
+  pub line_kept : standing t.state (w.lines + 1) started ≡ after_end w
+  line_kept = line_after w t is early
 
--- by the command that was read
-pub by_reading : {t : Turned} {k : Command} (w : Standing) → k ≡ command_in w.reading → t ≡ taken w.state k → t ≡ line_taken w
-by_reading w e is = is ∙ ap (taken w.state) e
+  pub none-printed : t.reply ≡ None → printed_at w ≡ []
+  none-printed none = line-printed w t is early ∙ ap (replied (w.lines + 1) t.state.machine) none
+
+  pub reply-printed : {r : Reply} {masks_at channels_at : ℕ} → t.reply ≡ Some r
+      → masks_at ≡ t.state.machine.masks_at → channels_at ≡ t.state.machine.channels_at
+      → printed_at w ≡ printed (w.lines + 1) r.refusal r.value masks_at channels_at
+  reply-printed some masks channels =
+      rw (masks, channels) (line-printed w t is early ∙ ap (replied (w.lines + 1) t.state.machine) some)

@@ -4,7 +4,6 @@ pub mod ChunkLaw
 pub mod CourseLaw
 pub mod EndLaw
 pub mod FeedLaw
-pub mod GrownLaw
 pub mod OutputLaw
 pub mod RecordLaw
 pub mod RelinedLaw

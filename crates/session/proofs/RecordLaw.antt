@@ -15,7 +15,7 @@ use Rattle.outcome.proofs.Theorems.{keeps_sound, unchanged}
 use Rattle.layout.specs.Layout.{Says}
 use Rattle.layout.proofs.Theorems.{empty_is_zeros, machine_back}
 use Rattle.line.proofs.FieldLaw.{split}
-use Rattle.session.specs.Kept.{RecordFits, empty_words, machine_in}
+use Rattle.session.specs.Records.{RecordFits, empty_words, machine_in}
 
 -- the record that words say is found there, and is found sound
 pub machine_in_lem : (ws : List ℕ) (m : Machine) → Says ws m → machine_in ws ≡ m

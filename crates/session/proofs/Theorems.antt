@@ -82,7 +82,7 @@ whole chunks = (
 
 pub starts : theorem.Starts
 unfolding started
-starts t₀ t₁ t₂ dealer = rw empty_in refl
+starts j words lines channels count read = rw (words, lines, channels.0, channels.1.0, channels.1.1, count, read, empty_in) refl
 
 prints_13 : (n : ℕ) (s : State) (l : List ℕ) (ls : List (List ℕ)) {k : Command} → command_of l ≡ k → taken s k ≡ declined s
     → theorem.Prints13 n s l ls

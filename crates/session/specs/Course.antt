@@ -1,6 +1,6 @@
 -- 01, "What demand 3 compares", of the lines of a job: its orders, what each is lent, its tapes; what is printed of its course; the same
 -- lines with other tapes, and what one party would see instead.
-use Rattle.std.specs.Prelude.{ℕ, suc, ◌+◌, cond, ◌≡◌, ltb, get_or, length, take}
+use Rattle.std.specs.Prelude.{ℕ, suc, ◌+◌, cond, ◌≡◌, ltb, None, Option, get_or, length, take}
 use mathlib.Core.List.{List, [], ◌∷◌, ◌++◌, flatten, map}
 use Rattle.gate.specs.Places.{Place, next, p0, p1, p2, tabled, three}
 use Rattle.machine.specs.Checks.{Tapes}
@@ -13,9 +13,8 @@ use Rattle.protocol.specs.Orders.{orders, without_number}
 use Rattle.line.specs.Lines.{command_of, lines_of}
 use Rattle.line.specs.declared.commands.Command.{Command}
 use Rattle.line.specs.declared.commands.Command.TheVariants.{Dealer, Masks, Order, Unreadable}
-use Rattle.session.specs.Outputs.{State, most, replied, taken, zero_words}
+use Rattle.session.specs.Outputs.{State, declined13, most, replied, says, taken, zero_words}
 use Rattle.session.specs.declared.replies.Reply.{Reply}
-use Rattle.session.specs.declared.replies.Reply.TheVariants.{Says, Silent}
 
 -- what each of some lines says
 abbrev pub said : List (List ℕ) → List Command
@@ -93,8 +92,8 @@ outcomes_from s [] = []
 outcomes_from s (k ∷ ks) = outcome_of s k ++ outcomes_from (taken s k).state ks
 
 -- "a tape line after 512 taken of its kind prints 13": one after n taken
-abbrev pub tape_reply : ℕ → Reply
-tape_reply n = cond (ltb n most) Silent (Says 13 0)
+abbrev pub tape_reply : ℕ → Option Reply
+tape_reply n = cond (ltb n most) None declined13
 
 -- What lines print, by the lines above them, the record m that the last order above returned, and what their own orders return, in turn:
 -- "line number (from 1, every line counted), refusal or 0, value opened or 0, strand position, wire position"
@@ -107,9 +106,9 @@ printed_of above m (Dealer item ∷ ks) xs =
     replied (length above + 1) m (tape_reply (length (tapes_of above).dealer)) ++ printed_of (above ++ (Dealer item ∷ [])) m ks xs
 printed_of above m (Order o ∷ ks) [] = []
 printed_of above m (Order o ∷ ks) (x ∷ xs) =
-    replied (length above + 1) x.state (Says x.refusal x.value) ++ printed_of (above ++ (Order o ∷ [])) x.state ks xs
+    replied (length above + 1) x.state (says x.refusal x.value) ++ printed_of (above ++ (Order o ∷ [])) x.state ks xs
 printed_of above m (Unreadable ∷ ks) xs =
-    replied (length above + 1) m (Says 13 0) ++ printed_of (above ++ (Unreadable ∷ [])) m ks xs
+    replied (length above + 1) m declined13 ++ printed_of (above ++ (Unreadable ∷ [])) m ks xs
 
 -- what all lines of a job print, by the course of their own run
 abbrev pub printed_run : List Command → List ℕ

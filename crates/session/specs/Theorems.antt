@@ -1,7 +1,7 @@
 -- Facts about what whole jobs print, for all bytes of input. Proofs: proofs/Theorems.antt.
 use Rattle.std.specs.Prelude.{ℕ, ◌+◌, ◌≤◌, ◌≡◌, length, replicate}
 use mathlib.Core.List.{List, [], ◌∷◌, ◌++◌, flatten, map}
-use Rattle.gate.specs.Places.{Place, p0, three}
+use Rattle.gate.specs.Places.{Place, p0}
 use Rattle.machine.specs.Checks.{Tapes}
 use Rattle.machine.specs.Registers.{empty_machine, million}
 use Rattle.machine.specs.declared.registers.Machine.{Machine}
@@ -10,6 +10,7 @@ use Rattle.act.specs.Secrecy.{Meet}
 use Rattle.protocol.specs.Orders.{orders, returned}
 use Rattle.line.specs.Lines.{command_of}
 use Rattle.line.specs.Printed.{printed}
+use Rattle.line.specs.Readings as readings
 use Rattle.line.specs.declared.commands.Command.{Command}
 use Rattle.line.specs.declared.commands.Command.TheVariants.{Dealer, Masks, Unreadable}
 use Rattle.session.specs.Course.{
@@ -25,9 +26,11 @@ use Rattle.session.specs.Course.{
   said_by,
   tapes_of,
 }
-use Rattle.session.specs.Kept.{at_line, empty_words, no_lines, standing_of}
-use Rattle.session.specs.Outputs.{State, most, output, output_from, started, zero_words}
+use Rattle.session.specs.Kept.{standing_of, tapes_in}
+use Rattle.session.specs.Outputs.{State, most, no_tapes, output, output_from, started, zero_words}
+use Rattle.session.specs.Records.{empty_words, machine_in}
 use Rattle.session.specs.Standings.{Standing, after_bytes, begun, printed_by, printed_for, printed_last}
+use Rattle.session.specs.declared.jobs.Job.{Job}
 
 -- read byte by byte to the end of input, a job prints its output
 abbrev pub Output : Type 0
@@ -50,10 +53,11 @@ abbrev pub Stops : Type 0
 Stops = (w : Standing) → million ≤ w.lines → (bytes : List ℕ)
     → (printed_by w bytes ≡ []) × (printed_last (after_bytes w bytes) ≡ [])
 
--- what the code keeps before the first line is the definition's start, whatever the runs for tapes hold
+-- what the code keeps before the first line, a record of zero words and no tape line, is the definition's start
 abbrev pub Starts : Type 0
-Starts = (t₀ t₁ t₂ dealer : List ℕ)
-    → standing_of (at_line no_lines 0) empty_words t₀ t₁ t₂ dealer (three zero_words zero_words zero_words) ≡ begun
+Starts = (j : Job) → j.kept.record ≡ machine_in empty_words → tapes_in j.kept.tapes ≡ no_tapes
+    → (j.kept.c0 ≡ zero_words) × ((j.kept.c1 ≡ zero_words) × (j.kept.c2 ≡ zero_words)) → j.lines ≡ 0 → j.reading ≡ readings.started
+    → standing_of j ≡ begun
 
 -- "prints 13 as refusal and changes nothing": line l, number n, of a job at s with the lines ls to come
 abbrev pub Prints13 : (n : ℕ) → State → (l : List ℕ) (ls : List (List ℕ)) → Type 0

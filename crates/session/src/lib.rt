@@ -1,11 +1,10 @@
 // A job, line by line: what each line does, and what is printed.
 #![tactic(auto)]
 
-mod lines;
-mod progress;
+mod jobs;
+mod records;
 mod replies;
-mod turns;
+mod states;
+mod tapes;
 
-pub use lines::{LAST_LINE, Printed, feed, finish};
-pub use progress::{Counts, Progress, Turn};
-pub use replies::Reply;
+pub use jobs::{Job, MOST_PRINTED};

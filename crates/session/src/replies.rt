@@ -1,29 +1,25 @@
-// What a line is answered.
-ghost use Rattle.std.specs.Prelude.{◌+◌, ◌≤◌, length};
-ghost use Rattle.line.specs.Printed.{Wrote};
-ghost use Rattle.session.specs.Kept.{RecordFits, machine_in};
-ghost use Rattle.session.specs.Outputs.{replied};
+// What an order or a line that cannot be taken is answered.
+ghost use Rattle.std.specs.Prelude.{◌≡◌};
+ghost use Rattle.session.specs.Outputs.{declined13};
 
-use line::print_line;
-
-// A tape line that is taken is answered by nothing; any other by its refusal or 0, and the value opened or 0.
+// 01: "refusal or 0, value opened or 0". A tape line that is taken is answered by no reply.
 #[derive(Clone, Copy)]
-pub enum Reply {
-    Silent,
-    Says { refusal: u64, value: u64 },
+pub struct Reply {
+    pub refusal: u64,
+    pub value: u64,
 }
 
-// Writes what is printed of a reply at `at`, and answers the place after it.
-pub fn print_reply(out: &mut [u8], at: usize, line: u64, record: &[u64], reply: Reply) -> usize
-    requires machine { RecordFits «record».now }
-    requires room { at + 105 ≤ length out.old }
-    ensures writes { Wrote at (replied line (machine_in «record».now) reply) out.old out.new result }
-    ensures short { result ≤ at + 105 }
-{
-    match reply {
-        Reply::Silent => at,
-        Reply::Says { refusal, value } => {
-            print_line(out, at, line, refusal, value, record[80], record[81])
+// 01: "prints 13 as refusal".
+const DECLINED: u64 = 13;
+
+impl Reply {
+    // To a line that changes nothing.
+    pub fn declined() -> Reply
+        ensures { Some result ≡ declined13 }
+    {
+        Reply {
+            refusal: DECLINED,
+            value: 0,
         }
     }
 }

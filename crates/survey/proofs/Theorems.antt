@@ -6,12 +6,12 @@ use mathlib.Core.Logic.{◌⊎◌, inl, inr, ⊎_elim}
 use mathlib.Core.Path.{◌≡◌, ap, refl, subst, sym, ◌∙◌}
 use native.Mathlib.Omega.{arith}
 use borrow.Author.Tests.{lt-ltb, ltb-false}
-use lib.IntN.{ℤ, negsuc, pos}
+use Rattle.std.specs.Prelude.{Err, Ok}
 use Rattle.machine.specs.Registers.{million}
 use Rattle.session.specs.Outputs.{output}
 use Rattle.session.specs.Standings.{Standing, after_bytes, begun, printed_for}
 use Rattle.session.proofs.Theorems.{in_chunks, whole}
-use Rattle.survey.specs.Chunks.{Chunks, able, bytes_read, goes_on, next, none}
+use Rattle.survey.specs.Chunks.{Answered, Chunks, able, bytes_read, goes_on, next, none}
 use Rattle.survey.specs.Theorems as theorem
 use Rattle.survey.proofs.LoopLaw.{flatten_last}
 
@@ -24,13 +24,13 @@ after_last chunks last e =
 after_chunks : {chunks : List (List ℕ)} {w : Standing} → Chunks chunks w → w ≡ after_bytes begun (flatten chunks)
 unfolding flatten after_bytes
 after_chunks none = refl
-after_chunks (next {cs = cs} got is_written buf reads goes) = after_last cs (bytes_read got buf) (after_chunks reads)
+after_chunks (next {cs = cs} got buf reads goes) = after_last cs (bytes_read got buf) (after_chunks reads)
 
 -- no other chunk behind one that could be read: its read answered 0, or line 1,000,000 has ended
-last-read : (got : ℤ) (lines : ℕ) → able got true ≡ true → goes_on got true lines ≡ false → (got ≡ pos 0) ⊎ (million ≤ lines)
-last-read (pos zero) lines fine over = inl refl
-last-read (pos (suc n)) lines fine over = inr (ltb-false lines million (rw (lt-ltb 0 (suc n) (omega arith)) at over))
-last-read (negsuc n) lines fine over = let never : ◌≡◌ {A = ℕ} 0 1 = cc (fine) in absurd (omega arith)
+last-read : (got : Answered) (lines : ℕ) → able got ≡ true → goes_on got lines ≡ false → (got ≡ Ok 0) ⊎ (million ≤ lines)
+last-read (Ok zero) lines fine over = inl refl
+last-read (Ok (suc n)) lines fine over = inr (ltb-false lines million (rw (lt-ltb 0 (suc n) (omega arith)) at over))
+last-read (Err f) lines fine over = let never : ◌≡◌ {A = ℕ} 0 1 = cc (fine) in absurd (omega arith)
 
 pub prints : theorem.Prints
 prints v got buf rest r over fine ends = ⊎_elim at_end (λ late. (whole all).1 rest (stops late)) (last-read got v.lines fine over)
@@ -38,7 +38,7 @@ prints v got buf rest r over fine ends = ⊎_elim at_end (λ late. (whole all).1
     all : List (List ℕ)
     all = theorem.chunks_of r
 
-    at_end : got ≡ pos 0 → printed_for begun all ≡ output (flatten all ++ rest)
+    at_end : got ≡ Ok 0 → printed_for begun all ≡ output (flatten all ++ rest)
     at_end e = rw (ends e, append-nil) (whole all).0
 
     stops : million ≤ v.lines → million ≤ (after_bytes begun (flatten all)).lines

@@ -1,0 +1,22 @@
+-- The record in words, as a job keeps it.
+use Rattle.std.specs.Prelude.{ℕ, true, List, ◌≡◌, replicate}
+use Rattle.machine.specs.Registers.{empty_machine, sound}
+use Rattle.machine.specs.declared.registers.Machine.{Machine}
+use Rattle.layout.specs.Layout.{MachineFound, Says, found, machine_of, none}
+
+-- the record's words before the first line
+abbrev pub empty_words : List ℕ
+empty_words = replicate 83 0
+
+-- the record that words say; where they say none, the empty machine stands for it
+abbrev pub machine_else : MachineFound → Machine
+machine_else (found m) = m
+machine_else none = empty_machine
+
+unfoldable pub machine_in : List ℕ → Machine
+machine_in ws = machine_else (machine_of ws)
+
+-- the record's words say a record, and a sound one
+pub record RecordFits (ws : List ℕ) : Type 0 where
+  pub says : Says ws (machine_in ws)
+  pub sound : sound (machine_in ws) ≡ true

@@ -1,0 +1,92 @@
+// A job's record, in words that say a sound one, since every order leaves it sound.
+ghost use Rattle.std.specs.Prelude.{◌≡◌};
+ghost use Rattle.gate.specs.Lent.{at_entry_mut, at_exit};
+ghost use Rattle.machine.specs.Registers.{empty_machine};
+ghost use Rattle.session.specs.Kept.{tapes_in};
+ghost use Rattle.session.specs.Outputs.{ordered, state, turned};
+
+use crate::replies::Reply;
+use crate::tapes::TapeLines;
+use machine::Order;
+use order::{refusal, value};
+use std::marker::Model;
+use step::step_words;
+
+// How many words a record has, and where its positions on mask tapes and channels stand in them.
+const WORDS: usize = 83;
+
+const MASKS_AT: usize = 80;
+
+const CHANNELS_AT: usize = 81;
+
+// The record in words, seen as the record that they say.
+#[derive(Drop)]
+pub struct SoundRecord {
+    words: [u64; WORDS],
+}
+
+impl Model for SoundRecord {
+    ghost use Rattle.machine.specs.declared.registers.Machine.{Machine};
+
+    ghost Value = { Machine };
+
+    ghost use Rattle.session.specs.Records.{RecordFits, machine_in};
+
+    ghost view = { λ r. machine_in r.words };
+
+    ghost invariant = { λ r. RecordFits r.words };
+}
+
+impl SoundRecord {
+    // Empty registers, zero positions.
+    pub fn empty() -> SoundRecord
+        ensures { result ≡ empty_machine }
+    {
+        SoundRecord { words: [0; WORDS] }
+    }
+
+    // Its position on the mask tapes.
+    pub fn masks_at(&self) -> u64
+        ensures { result ≡ self.now.masks_at }
+    {
+        self.words[MASKS_AT]
+    }
+
+    // And on the channels.
+    pub fn channels_at(&self) -> u64
+        ensures { result ≡ self.now.channels_at }
+    {
+        self.words[CHANNELS_AT]
+    }
+
+    // 01: "kinds 1 to 9 are the orders". The record is sound, so its words are not looked at again.
+    pub fn give_order(
+        &mut self,
+        o: Order,
+        tapes: &TapeLines,
+        c0: &mut [u64],
+        c1: &mut [u64],
+        c2: &mut [u64],
+    ) -> Reply
+        ensures { turned (state self.new (tapes_in tapes.now) (at_exit c0 c1 c2)) (Some result)
+            ≡ ordered (state self.old (tapes_in tapes.now) (at_entry_mut c0 c1 c2)) o }
+    {
+        let words = &mut self.words;
+        let answer = step_words(
+            true,
+            o,
+            words,
+            tapes.m0.as_slice(),
+            tapes.m1.as_slice(),
+            tapes.m2.as_slice(),
+            tapes.dealer.as_slice(),
+            c0,
+            c1,
+            c2,
+        );
+        Reply {
+            refusal: refusal(answer),
+            value: value(answer),
+        }
+    }
+}

@@ -1,0 +1,52 @@
+// What the lines of a job leave, and what each of them does.
+ghost use Rattle.std.specs.Prelude.{◌≡◌};
+ghost use Rattle.session.specs.Kept.{state_of};
+ghost use Rattle.session.specs.Outputs.{started, taken, turned};
+
+use crate::records::SoundRecord;
+use crate::replies::Reply;
+use crate::tapes::TapeLines;
+use line::Command;
+
+// 01: "wires of 1,024 words".
+const WIRE: usize = 1024;
+
+// The record, the tape lines taken and the wires, in fixed memory.
+#[derive(Drop)]
+pub struct Kept {
+    pub record: SoundRecord,
+    tapes: TapeLines,
+    c0: [u64; WIRE],
+    c1: [u64; WIRE],
+    c2: [u64; WIRE],
+}
+
+impl Kept {
+    // Before the first line.
+    pub fn new() -> Kept
+        ensures { state_of result ≡ started }
+    {
+        Kept {
+            record: SoundRecord::empty(),
+            tapes: TapeLines::new(),
+            c0: [0; WIRE],
+            c1: [0; WIRE],
+            c2: [0; WIRE],
+        }
+    }
+
+    // What a line does, and what it is answered.
+    pub fn take_command(&mut self, command: Command) -> Option<Reply>
+        ensures { turned (state_of self.new) result ≡ taken (state_of self.old) command }
+    {
+        match command {
+            Command::Masks { t0, t1, t2 } => self.tapes.add_masks(t0, t1, t2),
+            Command::Dealer { item } => self.tapes.add_item(item),
+            Command::Order(o) => Some(
+                self.record
+                    .give_order(o, &self.tapes, &mut self.c0, &mut self.c1, &mut self.c2),
+            ),
+            Command::Unreadable => Some(Reply::declined()),
+        }
+    }
+}
