@@ -4,11 +4,15 @@ use mathlib.Core.Bool.{Bool, false}
 use mathlib.Core.List.{List, ◌++◌}
 use mathlib.Core.Path.{◌≡◌, ap, ap₂, subst, sym, ◌∙◌}
 use native.Mathlib.Omega.{arith}
-use lib.ListN.{length, length-append, length-map, length-replicate, replicate}
+use lib.ListN.{drop, length, length-append, length-map, length-replicate, replicate}
+use lib.Seq.{get_or-drop}
 use Rattle.ring.proofs.RangeLaw.{modulus-lt}
-use Rattle.gate.specs.Places.{three}
-use Rattle.circuit.specs.Circuits.{gates_of}
-use Rattle.circuit.specs.Lent.{Long}
+use Rattle.gate.specs.Places.{Place, three}
+use Rattle.gate.specs.declared.sharing.Sharing.{Sharing}
+use Rattle.circuit.specs.Circuits.{Circuit, gates_of}
+use Rattle.circuit.specs.Lent.{ItemsBelow, Left, Long}
+use Rattle.circuit.specs.Loans.{ItemsIn, Sends, channels, circuit_left, tapes}
+use Rattle.circuit.specs.declared.lent.Lent.{Lent}
 use Rattle.machine.specs.Checks.{any_bad}
 use Rattle.order.specs.Tasks.{circuit_of, cost_of}
 use Rattle.order.specs.declared.tasks.Cost.{Cost}
@@ -48,3 +52,24 @@ supplied t {k} {t₀} {t₁} {t₂} {c₀} {c₁} {c₂} is masks room found goo
     let items = both_below k.bits k.ring k.modulus (sym found ∙ good) in
     subst (λ (k : Cost). Supplied k t₀ t₁ t₂ c₀ c₁ c₂) is
     (record { masks = masks; room = room; first = items.0; items = items.1 })
+
+-- items below m from the k-th on, of tapes that are lent whole
+pub items_whole : {m k n : ℕ} {v : Lent} → v.at ≡ 0 → ItemsBelow m n (drop k v.m0.now) (drop k v.m1.now) (drop k v.m2.now) → ItemsIn m k n v
+items_whole {m} {k} {n} {v} start items =
+    record {
+      below = λ j h.
+          let at : v.at + k + j ≡ k + j = omega (arith, start) in
+          rw at
+          (record {
+            zero = rw get_or-drop at (items.zero j h);
+            one = rw get_or-drop at (items.one j h);
+            two = rw get_or-drop at (items.two j h);
+          });
+    }
+
+-- what a circuit leaves on runs that are lent whole
+pub left_whole : {n : ℕ} {C : Circuit} {x y : Place → ℕ} {z : Sharing} {v w : Lent} {d₀ d₁ d₂ : List ℕ} → v.at ≡ 0
+    → Sends n (circuit_left C x y z) v w
+    → w.c0.now ≡ d₀ → w.c1.now ≡ d₁ → w.c2.now ≡ d₂
+    → Left C x y (tapes v) (channels v) z (three d₀ d₁ d₂)
+left_whole start sends e₀ e₁ e₂ = rw (← e₀, ← e₁, ← e₂) (rw start at sends.ahead)

@@ -5,8 +5,8 @@ use mathlib.Core.Path.{◌≡◌, ap, fun_ext, refl, sym, ◌∙◌}
 use native.Mathlib.Nat.{add-zero}
 use native.Mathlib.Omega.{arith}
 use native.Mathlib.Numerals.{add-one}
-use lib.ListN.{drop, get_or, length, length-append, length-drop, set, take, take-append-drop}
-use lib.Seq.{drop_at, drop-drop, get_or-drop, take-add, take_at}
+use lib.ListN.{drop, length, length-append, length-drop, take, take-append-drop}
+use lib.Seq.{drop_at, drop-drop, get_or-drop, take_at}
 use Rattle.std.proofs.lemmas.List.{drop-take, take-take}
 use Rattle.gate.specs.Places.{InRange, Place, Sent, p0, p1, p2, parts, three}
 use Rattle.gate.specs.declared.sharing.Sharing.{Sharing}
@@ -79,6 +79,9 @@ same_then n {u} {v} {w} moved a b =
     less : (i : Place) → take u.at (channels w i) ≡ take u.at (channels v i)
     less i = sym (shorter (channels w i)) ∙ ap (take u.at) (both i) ∙ shorter (channels v i)
 
+pub same_now : (v : Lent) → Same v v
+same_now v = record { m0 = refl; m1 = refl; m2 = refl; c0 = refl; c1 = refl; c2 = refl; long = λ i. refl; behind = λ i. refl }
+
 same_tapes : {v w : Lent} → Same v w → tapes w ≡ tapes v
 same_tapes same = rw (same.m0, same.m1, same.m2)
 
@@ -104,6 +107,23 @@ sends_then {n} {k} {P} {Q} {R} {u} {v} {w} a b on =
       same = same_then n a.at a.same b.same;
     }
 
+-- each channel has room for a gate's word
+pub room_ahead : {k : ℕ} {v : Lent} → 0 < k → Room k v → (i : Place) → 0 < length (drops v.at (channels v) i)
+room_ahead {v = v} some room =
+    each (λ i. 0 < length (drops v.at (channels v) i))
+    (rw length-drop (omega (arith, room.channels))) (rw length-drop (omega (arith, room.channels))) (rw length-drop (omega (arith, room.channels)))
+
+-- what is sent, said otherwise; and with the room that there was
+pub sends_said : {n : ℕ} {P Q : (T c d : Place → List ℕ) → Type 0} {v w : Lent} → Sends n P v w
+    → (P (drops v.at (tapes v)) (drops v.at (channels v)) (drops v.at (channels w))
+    → Q (drops v.at (tapes v)) (drops v.at (channels v)) (drops v.at (channels w)))
+    → Sends n Q v w
+sends_said sends said = record { ahead = said sends.ahead; at = sends.at; same = sends.same }
+
+pub sends_roomy : {n k : ℕ} {P : (T c d : Place → List ℕ) → Type 0} {v w : Lent} → 0 < k → Room k v → Sends n P v w
+    → Sends n (λ T c d. ((i : Place) → 0 < length (c i)) × P T c d) v w
+sends_roomy some room sends = record { ahead = (room_ahead some room, sends.ahead); at = sends.at; same = sends.same }
+
 pub sends_count : {n k : ℕ} {P : (T c d : Place → List ℕ) → Type 0} {v w : Lent} → n ≡ k → Sends n P v w → Sends k P v w
 sends_count e sends = rw e at sends
 
@@ -116,7 +136,7 @@ module _ {S : Type 0} where
       record {
         ahead = no_gates g e;
         at = omega arith;
-        same = record { m0 = refl; m1 = refl; m2 = refl; c0 = refl; c1 = refl; c2 = refl; long = λ i. refl; behind = λ i. refl };
+        same = same_now v;
       }
 
   -- one more
@@ -165,13 +185,14 @@ room_later n k {v = v} {w = w} less room sends =
       channels = record { zero = omega arith; one = omega arith; two = omega arith };
     }
 
-pub items_later : (m i n k : ℕ) {P : (T c d : Place → List ℕ) → Type 0} {v w : Lent} → ItemsIn m (n + i) k v → Sends n P v w → ItemsIn m i k w
-items_later m i n k {v = v} {w = w} items sends =
+pub items_later : {m k all : ℕ} (n i : ℕ) {P : (T c d : Place → List ℕ) → Type 0} {v w : Lent} → all ≡ n + i → ItemsIn m all k v → Sends n P v w → ItemsIn m i k w
+items_later n i {v = v} {w = w} e items sends =
     let same = sends.same in
+    let here = rw e at items in
     record {
       below = λ j h.
           let at : w.at + i + j ≡ v.at + (n + i) + j = omega (arith, sends.at) in
-          rw (at, same.m0, same.m1, same.m2) (items.below j h);
+          rw (at, same.m0, same.m1, same.m2) (here.below j h);
     }
 
 pub items_less : (m n i k : ℕ) {v : Lent} → i + k ≤ n → ItemsIn m 0 n v → ItemsIn m i k v
@@ -186,7 +207,7 @@ pub supplied_later : {m all : ℕ} (n k : ℕ) {P : (T c d : Place → List ℕ)
 supplied_later {m} {all} n k less supplied sends =
     record {
       room = room_later n k less supplied.room sends;
-      items = items_later m 0 n k (items_less m all (n + 0) k (omega arith) supplied.items) sends;
+      items = items_later n 0 refl (items_less m all (n + 0) k (omega arith) supplied.items) sends;
     }
 
 pub room_less : {n : ℕ} (k : ℕ) {v : Lent} → k ≤ n → Room n v → Room k v
@@ -195,15 +216,6 @@ room_less k less room =
       masks = record { zero = omega arith; one = omega arith; two = omega arith };
       channels = record { zero = omega arith; one = omega arith; two = omega arith };
     }
-
-pub supplied_less : {m n : ℕ} (k : ℕ) {v : Lent} → k ≤ n → Supplied m n v → Supplied m k v
-supplied_less {m} {n} k less supplied = record { room = room_less k less supplied.room; items = items_less m n 0 k (omega arith) supplied.items }
-
--- each channel has room for a gate's word, also once n gates are done
-pub room_ahead : {k : ℕ} {v : Lent} → 0 < k → Room k v → (i : Place) → 0 < length (drops v.at (channels v) i)
-room_ahead {v = v} some room =
-    each (λ i. 0 < length (drops v.at (channels v) i))
-    (rw length-drop (omega (arith, room.channels))) (rw length-drop (omega (arith, room.channels))) (rw length-drop (omega (arith, room.channels)))
 
 -- the next items are the heads of the tapes
 pub heads_next : (v : Lent) → heads (drops v.at (tapes v)) ≡ parts (items_next v)

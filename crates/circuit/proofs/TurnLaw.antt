@@ -1,23 +1,17 @@
 -- One gate a turn on lent runs: the items that it takes, the words that it sends, and a stage of such gates.
-use Prim.Native.Nat.{ℕ, ◌+◌, ◌<◌}
+use Prim.Native.Nat.{ℕ}
 use mathlib.Core.List.{List, [], ◌∷◌}
-use mathlib.Core.Path.{◌≡◌, ap, refl, sym, ◌∙◌}
+use mathlib.Core.Path.{◌≡◌, ap, refl, sym}
 use native.Mathlib.Nat.{add-zero}
-use native.Mathlib.Numerals.{add-one}
 use lib.ListN.{set}
 use lib.Seq.{get_or-drop}
-use Rattle.gate.specs.Places.{InRange, Place, Sent, parts, sharing, three}
+use Rattle.gate.specs.Places.{Place, Sent, p0, p1, p2, parts, sharing, three}
 use Rattle.gate.specs.declared.sharing.Sharing.{Sharing}
 use Rattle.gate.proofs.PlaceLaw.{each}
 use Rattle.circuit.specs.Circuits.{Gate, upto, words}
-use Rattle.circuit.specs.Lent.{ItemsBelow, Long, Ran, Turned}
+use Rattle.circuit.specs.Lent.{Long, Ran, Turned}
 use Rattle.circuit.specs.Sharings.{items_at}
-use Rattle.circuit.proofs.LentLaw.{part_is, part_from, put_back, ran-gate, ran_none, ran-three, rooms}
-use Rattle.circuit.proofs.RunLaw.{length-upto}
-
--- the items that a gate takes are in range
-pub items_in : {m n k : ℕ} {t : Sharing} {t₀ t₁ t₂ : List ℕ} → k < n → t ≡ items_at k t₀ t₁ t₂ → ItemsBelow m n t₀ t₁ t₂ → InRange m t
-items_in {k = k} inside is h = rw is (record { zero = h.zero k inside; one = h.one k inside; two = h.two k inside })
+use Rattle.circuit.proofs.LentLaw.{part_is, part_from, ran-gate, ran_none, rooms}
 
 -- item k is the first of the part from k on
 pub items-next : (k : ℕ) (t₀ t₁ t₂ : List ℕ) → items_at 0 (part_from k t₀) (part_from k t₁) (part_from k t₂) ≡ items_at k t₀ t₁ t₂
@@ -25,10 +19,9 @@ items-next k t₀ t₁ t₂ =
     rw (part_is k t₀, part_is k t₁, part_is k t₂, get_or-drop k t₀ 0 0, get_or-drop k t₁ 0 0, get_or-drop k t₂ 0 0, add-zero)
 
 -- the words that a gate sends, by place
-pub stored : {z : Sharing} (x : Place → ℕ) {c₀ c₁ c₂ d₀ d₁ d₂ : List ℕ}
-    → z ≡ sharing x → Sent z c₀ c₁ c₂ d₀ d₁ d₂ → (i : Place) → three d₀ d₁ d₂ i ≡ set (three c₀ c₁ c₂ i) 0 (x i)
-stored x {c₀ = c₀} {c₁ = c₁} {c₂ = c₂} {d₀ = d₀} {d₁ = d₁} {d₂ = d₂} is sent =
-    each (λ i. three d₀ d₁ d₂ i ≡ set (three c₀ c₁ c₂ i) 0 (x i)) (rw is at sent.zero) (rw is at sent.one) (rw is at sent.two)
+pub stored : {z : Sharing} (x : Place → ℕ) (c d : Place → List ℕ)
+    → z ≡ sharing x → Sent z (c p0) (c p1) (c p2) (d p0) (d p1) (d p2) → (i : Place) → d i ≡ set (c i) 0 (x i)
+stored x c d is sent = each (λ i. d i ≡ set (c i) 0 (x i)) (rw is at sent.zero) (rw is at sent.one) (rw is at sent.two)
 
 module _ {S : Type 0} where
   -- a turn is a stretch of one gate
@@ -37,23 +30,12 @@ module _ {S : Type 0} where
       → Long 1 c₀ c₁ c₂
       → Turned g s t r c₀ c₁ c₂ d₀ d₁ d₂
       → Ran (g ∷ []) s (three m₀ m₁ m₂) (three c₀ c₁ c₂) r (three d₀ d₁ d₂)
-  turn-ran {g} {s} {r} {t} {m₀} {m₁} {m₂} {c₀} {c₁} {c₂} items room turned =
+  turn-ran {g} {s} {r} {t} {m₀} {m₁} {m₂} {c₀} {c₁} {c₂} {d₀} {d₁} {d₂} items room turned =
       let z : Place → ℕ = words g s (parts t) in
       rw (← turned.states)
-      (ran-gate g s (three m₀ m₁ m₂) (three c₀ c₁ c₂) z (ap (λ (w : Sharing). words g s (parts w)) (sym items)) (rooms room) (stored z refl turned.stored))
+      (ran-gate g s (three m₀ m₁ m₂) (three c₀ c₁ c₂) z (ap (λ (w : Sharing). words g s (parts w)) (sym items)) (rooms room) (stored z (three c₀ c₁ c₂) (three d₀ d₁ d₂) refl turned.stored))
 
   -- no gate of a stage yet
   pub no_gates : (g : ℕ → Gate S) {s r : Place → S} {T c : Place → List ℕ} → s ≡ r → Ran (upto g 0) s T c r c
   unfolding upto
   no_gates g {s} {T = T} {c = c} e = rw (← e) (ran_none s T c)
-
-  -- one more
-  pub one_more : (g : ℕ → Gate S) (k : ℕ) {s r r' : Place → S} {t : Sharing} {c : Place → List ℕ} {m₀ m₁ m₂ d₀ d₁ d₂ e₀ e₁ e₂ : List ℕ}
-      → t ≡ items_at k m₀ m₁ m₂
-      → Ran (upto g k) s (three m₀ m₁ m₂) c r (three d₀ d₁ d₂)
-      → Long 1 (part_from k d₀) (part_from k d₁) (part_from k d₂)
-      → Turned (g k) r t r' (part_from k d₀) (part_from k d₁) (part_from k d₂) e₀ e₁ e₂
-      → Ran (upto g (k + 1)) s (three m₀ m₁ m₂) c r' (put_back k d₀ d₁ d₂ e₀ e₁ e₂)
-  unfolding upto
-  one_more g k {m₀ = m₀} {m₁ = m₁} {m₂ = m₂} items a room turned =
-      rw (add-one k) (ran-three (length-upto g k) a (turn-ran (items ∙ sym (items-next k m₀ m₁ m₂)) room turned))

@@ -4,7 +4,7 @@ use mathlib.Core.List.{List}
 use mathlib.Core.Path.{◌≡◌, ap, fun_ext, refl, sym, ◌∙◌}
 use native.Mathlib.Omega.{arith}
 use lib.Bits.{bit_xor}
-use lib.ListN.{set}
+use lib.ListN.{length, set, take}
 use Rattle.ring.specs.Modular.{diff}
 use Rattle.ring.specs.Rings.{bit_of, modulus, quarter}
 use Rattle.ring.proofs.BitLaw.{xor_bit}
@@ -15,13 +15,15 @@ use Rattle.gate.proofs.PlaceLaw.{each, parts-sharing}
 use Rattle.circuit.specs.Bits.{xor}
 use Rattle.circuit.specs.Circuits.{after, ends, heads, starts, words}
 use Rattle.circuit.specs.Compose.{Summing, compose_gates, summing_start}
-use Rattle.circuit.specs.Lent.{Left, Long}
-use Rattle.circuit.specs.Orders.{Quotient, conversion, quotient_bit, quotient_gate, quotient_start, word_bit}
-use Rattle.circuit.specs.Sharings.{four_times, items_at}
-use Rattle.circuit.proofs.LentLaw.{left_of, parts_from, put_back, ran-gate, ran-three, rooms}
+use Rattle.circuit.specs.Lent.{Left}
+use Rattle.circuit.specs.Orders.{Quotient, conversion, quotient_bit, quotient_gate, quotient_start}
+use Rattle.circuit.specs.Sharings.{four_times}
+use Rattle.circuit.proofs.LentLaw.{left_of, ran-gate}
+use Rattle.circuit.proofs.LoanLaw.{ran_then}
+use Rattle.circuit.proofs.RunLaw.{drops}
 use Rattle.circuit.proofs.TurnLaw.{stored}
 use Rattle.compose.specs.Quotients.{Carries, Quoted, carried, carry_words, low, quotient_with}
-use Rattle.compose.specs.Sums.{Summed}
+use Rattle.compose.specs.Sums.{bits_summed}
 use Rattle.compose.proofs.ImageLaw.{summed_as, worded}
 use Rattle.compose.proofs.SumLaw.{compose_keeps}
 
@@ -33,21 +35,19 @@ alone_right : {b : ℕ} → b < 2 → xor 0 b ≡ b
 alone_right h = omega arith
 
 -- the gate on bits 0 as the code has them
-pub carries_of : {r t z : Sharing} {b₀ b₁ b₂ k₂ : ℕ} {t₀ t₁ t₂ c₀ c₁ c₂ d₀ d₁ d₂ : List ℕ}
+pub carries_of : {r z : Sharing} {b₀ b₁ b₂ k₂ : ℕ} {T c d : Place → List ℕ}
     → b₀ ≡ bit_of r.s0 0 → b₁ ≡ bit_of r.s1 0 → b₂ ≡ bit_of r.s2 0
     → b₀ < 2 → b₁ < 2 → b₂ < 2
-    → t ≡ items_at 0 t₀ t₁ t₂
-    → z ≡ sharing (gated 2 (three b₀ 0 b₂) (three 0 b₁ b₂) (parts t))
+    → z ≡ sharing (gated 2 (three b₀ 0 b₂) (three 0 b₁ b₂) (heads T))
     → InRange 2 z
-    → Sent z c₀ c₁ c₂ d₀ d₁ d₂
+    → Sent z (c p0) (c p1) (c p2) (d p0) (d p1) (d p2)
     → k₂ ≡ bit_xor b₂ z.s2
-    → Carries (parts r) (three t₀ t₁ t₂) (three c₀ c₁ c₂) (record { s0 = z.s0; s1 = z.s1; s2 = k₂ }) (three d₀ d₁ d₂)
+    → Carries (parts r) T c (record { s0 = z.s0; s1 = z.s1; s2 = k₂ }) d
 unfolding carry_words
-carries_of {r} {t} {z} {b₀} {b₁} {b₂} {k₂} {t₀} {t₁} {t₂} {c₀} {c₁} {c₂} e₀ e₁ e₂ h₀ h₁ h₂ items is range out last =
-    let T : Place → List ℕ = three t₀ t₁ t₂ in
+carries_of {r} {z} {b₀} {b₁} {b₂} {k₂} {T} {c} {d} e₀ e₁ e₂ h₀ h₁ h₂ is range out last =
     let sent : carry_words (parts r) (heads T) ≡ parts z
-    = rw (ap parts (sym items), ← e₀, ← e₁, ← e₂, alone-left h₀, alone-left h₁, alone_right h₂)
-    (sym (ap parts is ∙ parts-sharing (gated 2 (three b₀ 0 b₂) (three 0 b₁ b₂) (parts t)))) in
+    = rw (← e₀, ← e₁, ← e₂, alone-left h₀, alone-left h₁, alone_right h₂)
+    (sym (ap parts is ∙ parts-sharing (gated 2 (three b₀ 0 b₂) (three 0 b₁ b₂) (heads T)))) in
     let word : (i : Place) → carry_words (parts r) (heads T) i ≡ parts z i = λ i. ap (λ (w : Place → ℕ). w i) sent in
     let k : Sharing = record { s0 = z.s0; s1 = z.s1; s2 = k₂ } in
     record {
@@ -55,11 +55,11 @@ carries_of {r} {t} {z} {b₀} {b₁} {b₂} {k₂} {t₀} {t₁} {t₂} {c₀} {
           (sym (ap (xor 0) (word p0) ∙ alone_right range.zero))
           (sym (ap (xor 0) (word p1) ∙ alone_right range.one))
           (rw (last, xor_bit h₂ range.two, word p2, e₂));
-      stored = λ i. stored (parts z) refl out i ∙ ap (set (three c₀ c₁ c₂ i) 0) (sym (word i));
+      stored = λ i. stored (parts z) c d refl out i ∙ ap (set (c i) 0) (sym (word i));
     }
 
 -- the r_i, and the states of the first gate
-abbrev negatives : Sharing → Place → ℕ
+abbrev pub negatives : Sharing → Place → ℕ
 negatives x = three (diff 4 0 x.s0) (diff 4 0 x.s1) (diff 4 0 x.s2)
 
 abbrev started : Sharing → Place → Summing Quotient
@@ -75,20 +75,19 @@ unfolding after quotient_gate
 first_states x k z is = rw (is p0, is p1, is p2)
 
 -- from the carry, the two bits of q
-pub quoted : {x k q : Sharing} {r₀ r₁ r₂ : ℕ} {t₀ t₁ t₂ c₀ c₁ c₂ d₀ d₁ d₂ : List ℕ}
-    → Long 1 c₀ c₁ c₂
-    → r₀ ≡ diff 4 0 x.s0 → r₁ ≡ diff 4 0 x.s1 → r₂ ≡ diff 4 0 x.s2
-    → Carries (three r₀ r₁ r₂) (three t₀ t₁ t₂) (three c₀ c₁ c₂) k (three d₀ d₁ d₂)
-    → q.s0 ≡ quotient_with r₀ k.s0 → q.s1 ≡ quotient_with r₁ k.s1 → q.s2 ≡ quotient_with r₂ k.s2
-    → Quoted (parts x) (three t₀ t₁ t₂) (three c₀ c₁ c₂) q (three d₀ d₁ d₂)
-quoted {x} {k} {q} {r₀} {r₁} {r₂} {t₀} {t₁} {t₂} {c₀} {c₁} {c₂} {d₀} {d₁} {d₂} room e₀ e₁ e₂ found q₀ q₁ q₂ =
-    let T : Place → List ℕ = three t₀ t₁ t₂ in
-    let h : Carries (negatives x) T (three c₀ c₁ c₂) k (three d₀ d₁ d₂) = rw (e₀, e₁, e₂) at found in
+pub quoted : {x r k q : Sharing} {T c d : Place → List ℕ}
+    → ((i : Place) → 0 < length (c i))
+    → r ≡ sharing (negatives x)
+    → Carries (parts r) T c k d
+    → ((i : Place) → parts q i ≡ quotient_with (parts r i) (parts k i))
+    → Quoted (parts x) T c q d
+quoted {x} {r} {k} {q} {T} {c} {d} room e found is =
+    let h : Carries (negatives x) T c k d = rw (ap parts e ∙ parts-sharing (negatives x)) at found in
     let z : Place → ℕ = carry_words (negatives x) (heads T) in
     record {
       carry = parts k;
-      ran = rw (first_states x (parts k) z h.is) at (ran-gate quotient_gate (started x) T (three c₀ c₁ c₂) z (first-words x (heads T)) (rooms room) h.stored);
-      is = each (λ i. parts q i ≡ quotient_with (diff 4 0 (parts x i)) (parts k i)) (rw (← e₀) q₀) (rw (← e₁) q₁) (rw (← e₂) q₂);
+      ran = rw (first_states x (parts k) z h.is) at (ran-gate quotient_gate (started x) T c z (first-words x (heads T)) room h.stored);
+      is = each (λ i. parts q i ≡ quotient_with (diff 4 0 (parts x i)) (parts k i)) (rw e at (is p0)) (rw e at (is p1)) (rw e at (is p2));
     }
 
 -- the word has the two bits
@@ -99,15 +98,16 @@ two-bits i s (suc zero) h = omega arith
 two-bits i s (suc (suc j)) h = omega arith
 
 module _ (e f : ℕ) where
-  pub converted : {a x q s z : Sharing} {t₀ t₁ t₂ c₀ c₁ c₂ d₀ d₁ d₂ h₀ h₁ h₂ : List ℕ}
+  pub converted : {a x q s z : Sharing} {T c d h : Place → List ℕ}
       → x ≡ four_times (modulus e) a
-      → Quoted (parts x) (three t₀ t₁ t₂) (three c₀ c₁ c₂) q (three d₀ d₁ d₂)
-      → Summed (compose_gates word_bit (modulus f) 0 2) (tabled (λ i. summing_start (parts q i))) (parts_from 1 t₀ t₁ t₂) (parts_from 1 d₀ d₁ d₂) (parts s) (three h₀ h₁ h₂)
+      → Quoted (parts x) T c q d
+      → bits_summed (modulus f) 0 2 q s (drops 1 T) (drops 1 d) (drops 1 h)
+      → ((i : Place) → take 1 (h i) ≡ take 1 (d i))
       → ((i : Place) → parts z i ≡ quarter f * diff (modulus f) (parts x i) (modulus e * parts s i) % modulus f)
-      → Left (conversion e f) (parts a) (parts a) (three t₀ t₁ t₂) (three c₀ c₁ c₂) z (put_back 1 d₀ d₁ d₂ h₀ h₁ h₂)
+      → Left (conversion e f) (parts a) (parts a) T c z h
   unfolding conversion
-  converted {a} {x} {q} {s} {z} {t₀} {t₁} {t₂} {c₀} {c₁} {c₂} {d₀} {d₁} {d₂} {h₀} {h₁} {h₂} four first summed settled =
-      let U : Place → List ℕ = parts_from 1 t₀ t₁ t₂ in
+  converted {a} {x} {q} {s} {z} {T} {c} {d} {h} four first summed same settled =
+      let U : Place → List ℕ = drops 1 T in
       let H = compose_gates quotient_bit (modulus f) 0 2 in
       let word : Place → Quotient → ℕ = λ i k. quotient_with k.r k.carry in
       let mid : Place → Summing Quotient = tabled (λ i. summing_start (carried (parts x i) (first.carry i))) in
@@ -115,7 +115,7 @@ module _ (e f : ℕ) where
       = fun_ext (each (λ i. tabled (λ j. summing_start (parts q j)) i ≡ worded word i (mid i))
       (ap summing_start (first.is p0)) (ap summing_start (first.is p1)) (ap summing_start (first.is p2))) in
       let second = summed_as quotient_bit word (modulus f) 0 2 two-bits (rw started_with at summed) in
-      let ran = ran-three refl first.ran (record { states = refl; channels = second.channels }) in
+      let ran = ran_then refl first.ran (record { states = refl; channels = second.channels }) same in
       let last : (i : Place) → (ends H mid U i).kept.x ≡ parts x i
       = λ i. ap (λ (k : Quotient). k.x) (compose_keeps quotient_bit (modulus f) 0 2 mid U i) ∙ each (λ j. (mid j).kept.x ≡ parts x j) refl refl refl i in
       let begun : started x ≡ starts (conversion e f) (parts a) (parts a) = rw four in

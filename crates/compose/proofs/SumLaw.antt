@@ -4,7 +4,7 @@ use mathlib.Core.List.{List, ◌++◌}
 use mathlib.Core.Path.{◌≡◌, ap, refl, ◌∙◌}
 use native.Mathlib.Numerals.{add-one}
 use native.Mathlib.Omega.{arith}
-use lib.ListN.{length, length-append}
+use lib.ListN.{length, length-append, take}
 use Rattle.ring.specs.Rings.{modulus}
 use Rattle.gate.specs.Places.{Place, p0, p1, p2, parts, tabled, three}
 use Rattle.gate.specs.declared.sharing.Sharing.{Sharing}
@@ -13,9 +13,10 @@ use Rattle.circuit.specs.Circuits.{Gate, after, ends, sent}
 use Rattle.circuit.specs.Compose.{Summing, compose_gates, first_gate, second_gate, summing_start}
 use Rattle.circuit.specs.Lent.{Left, Ran}
 use Rattle.circuit.specs.Orders.{composition, word_bit}
-use Rattle.circuit.proofs.LentLaw.{left_of, parts_from, put_back, ran-three}
+use Rattle.circuit.proofs.LentLaw.{left_of}
+use Rattle.circuit.proofs.LoanLaw.{ran_then}
 use Rattle.circuit.proofs.RunLaw.{drops, ends-append}
-use Rattle.compose.specs.Sums.{Holds, Summed, bit_gates}
+use Rattle.compose.specs.Sums.{Holds, Summed, bit_gates, bits_summed}
 
 module _ {K : Type 0} (read : Place → K → ℕ → ℕ) (m from : ℕ) where
   pub length_compose : (k : ℕ) → length (compose_gates read m from k) ≡ 2 * k
@@ -42,13 +43,14 @@ module _ {K : Type 0} where
       → Ran G s T c r d → ((i : Place) → (r i).sum ≡ z i) → Summed G s T c z d
   ran-summed ran h = record { sums = λ i. ap (λ r. (r i).sum) ran.states ∙ h i; channels = ran.channels }
 
-  summed-three : {G H : List (Gate (Summing K))} {s : Place → Summing K} {c : Place → List ℕ} {z z' : Place → ℕ} {n : ℕ} {t₀ t₁ t₂ d₀ d₁ d₂ e₀ e₁ e₂ : List ℕ}
+  summed_then : {G H : List (Gate (Summing K))} {s : Place → Summing K} {T c d e : Place → List ℕ} {z z' : Place → ℕ} {n : ℕ}
       → length G ≡ n
-      → Summed G s (three t₀ t₁ t₂) c z (three d₀ d₁ d₂)
-      → Summed H (ends G s (three t₀ t₁ t₂)) (parts_from n t₀ t₁ t₂) (parts_from n d₀ d₁ d₂) z' (three e₀ e₁ e₂)
-      → Summed (G ++ H) s (three t₀ t₁ t₂) c z' (put_back n d₀ d₁ d₂ e₀ e₁ e₂)
-  summed-three counted a b =
-      ran-summed (ran-three counted (record { states = refl; channels = a.channels }) (record { states = refl; channels = b.channels })) b.sums
+      → Summed G s T c z d
+      → Summed H (ends G s T) (drops n T) (drops n d) z' (drops n e)
+      → ((i : Place) → take n (e i) ≡ take n (d i))
+      → Summed (G ++ H) s T c z' e
+  summed_then counted a b kept =
+      ran-summed (ran_then counted (record { states = refl; channels = a.channels }) (record { states = refl; channels = b.channels }) kept) b.sums
 
 -- no bit yet
 pub none_summed : (m from : ℕ) (w : Sharing) (T c : Place → List ℕ)
@@ -58,26 +60,26 @@ none_summed m from w T c =
     record { sums = each (λ i. (tabled (λ j. summing_start (parts w j)) i).sum ≡ three 0 0 0 i) refl refl refl; channels = λ i. refl }
 
 -- one bit more
-pub more_summed : (m from k weight : ℕ) {w : Sharing} {z z' : Place → ℕ} {c : Place → List ℕ} {t₀ t₁ t₂ d₀ d₁ d₂ e₀ e₁ e₂ : List ℕ}
+pub more_summed : (m from k weight : ℕ) {w : Sharing} {z z' : Place → ℕ} {T c d e : Place → List ℕ}
     → weight ≡ 2 ^ k % m
-    → Summed (compose_gates word_bit m from k) (tabled (λ i. summing_start (parts w i))) (three t₀ t₁ t₂) c z (three d₀ d₁ d₂)
-    → ((s : Place → Summing ℕ) → Holds (parts w) z s → Summed (bit_gates word_bit m (from + k) weight) s (parts_from (2 * k) t₀ t₁ t₂) (parts_from (2 * k) d₀ d₁ d₂) z' (three e₀ e₁ e₂))
-    → Summed (compose_gates word_bit m from (k + 1)) (tabled (λ i. summing_start (parts w i))) (three t₀ t₁ t₂) c z' (put_back (2 * k) d₀ d₁ d₂ e₀ e₁ e₂)
+    → Summed (compose_gates word_bit m from k) (tabled (λ i. summing_start (parts w i))) T c z d
+    → ((s : Place → Summing ℕ) → Holds (parts w) z s → Summed (bit_gates word_bit m (from + k) weight) s (drops (2 * k) T) (drops (2 * k) d) z' (drops (2 * k) e))
+    → ((i : Place) → take (2 * k) (e i) ≡ take (2 * k) (d i))
+    → Summed (compose_gates word_bit m from (k + 1)) (tabled (λ i. summing_start (parts w i))) T c z' e
 unfolding compose_gates
-more_summed m from k weight {w} {z} {z'} {c} {t₀} {t₁} {t₂} {d₀} {d₁} {d₂} {e₀} {e₁} {e₂} weighs a b =
+more_summed m from k weight {w} {z} {z'} {T} {c} {d} {e} weighs a b kept =
     let start = tabled (λ i. summing_start (parts w i)) in
-    let T : Place → List ℕ = three t₀ t₁ t₂ in
     let now : Place → Summing ℕ = ends (compose_gates word_bit m from k) start T in
-    let kept : Holds (parts w) z now
+    let holds : Holds (parts w) z now
     = record {
       kept = λ i. compose_keeps word_bit m from k start T i ∙ each (λ j. (start j).kept ≡ parts w j) refl refl refl i;
       sum = a.sums;
     } in
-    rw add-one (summed-three (length_compose word_bit m from k) a (rw weighs at (b now kept)))
+    rw add-one (summed_then (length_compose word_bit m from k) a (rw weighs at (b now holds)) kept)
 
 -- all bits are order 8
-pub composed : (f l : ℕ) {w z : Sharing} {t₀ t₁ t₂ c₀ c₁ c₂ d₀ d₁ d₂ : List ℕ}
-    → Summed (compose_gates word_bit (modulus f) 0 l) (tabled (λ i. summing_start (parts w i))) (three t₀ t₁ t₂) (three c₀ c₁ c₂) (parts z) (three d₀ d₁ d₂)
-    → Left (composition f l) (parts w) (parts w) (three t₀ t₁ t₂) (three c₀ c₁ c₂) z (three d₀ d₁ d₂)
+pub composed : (f l : ℕ) {w z : Sharing} {T c d : Place → List ℕ}
+    → bits_summed (modulus f) 0 l w z T c d
+    → Left (composition f l) (parts w) (parts w) T c z d
 unfolding composition
 composed f l h = left_of {C = composition f l} (record { states = refl; channels = h.channels }) (rw (h.sums p0, h.sums p1, h.sums p2))

@@ -1,12 +1,11 @@
 -- Order 8's loop: one bit is two joins, and k bits are composed after k turns.
-use Prim.Native.Nat.{ℕ, ◌+◌, ◌*◌, ◌-◌, ◌%◌, ◌<◌, ◌≤◌, ◌^◌}
+use Prim.Native.Nat.{ℕ, ◌+◌, ◌*◌, ◌%◌, ◌<◌, ◌^◌}
 use mathlib.Core.List.{List}
 use mathlib.Core.Path.{◌≡◌, ap, refl, sym, ◌∙◌}
 use native.Mathlib.Nat.{mod-eq_of_lt}
 use native.Mathlib.Omega.{arith}
-use lib.ListN.{length}
+use lib.ListN.{drop, length, take}
 use lib.Pow.{pow-add}
-use borrow.Rule.Slice.PartMut.{same_len_mid}
 use Rattle.ring.specs.Modular.{Cong}
 use Rattle.ring.specs.Rings.{bit_of}
 use Rattle.ring.proofs.CongLaw.{cong_add, cong_mod, cong_mul, cong_of_eq, cong_refl, cong_sym, cong_trans, diff_cong}
@@ -17,13 +16,15 @@ use Rattle.gate.proofs.PlaceLaw.{each}
 use Rattle.gate.proofs.WordLaw.{gated_cong}
 use Rattle.circuit.specs.Circuits.{after, heads, words}
 use Rattle.circuit.specs.Compose.{Summing, compose_gates, first_gate, joined, second_gate, summing_start}
-use Rattle.circuit.specs.Lent.{Long}
+use Rattle.circuit.specs.Loans.{Sends, channels, tapes}
+use Rattle.circuit.specs.declared.lent.Lent.{Lent}
 use Rattle.circuit.specs.Orders.{word_bit}
-use Rattle.circuit.specs.Sharings.{items_at, zeros}
-use Rattle.circuit.proofs.LentLaw.{AsLong, part_from, parts_from, put_back, put_part, ran-gate, ran-three, rooms}
-use Rattle.circuit.proofs.TurnLaw.{items-next}
+use Rattle.circuit.specs.Sharings.{zeros}
+use Rattle.circuit.proofs.LentLaw.{ran-gate}
+use Rattle.circuit.proofs.LoanLaw.{ran_then, same_now, sends_count, sends_then}
+use Rattle.circuit.proofs.RunLaw.{drops}
 use Rattle.compose.specs.Steps.{Joins}
-use Rattle.compose.specs.Sums.{Holds, JoinsBit, Summed, bit_gates}
+use Rattle.compose.specs.Sums.{Holds, JoinsBit, Summed, bit_gates, bits_summed}
 use Rattle.compose.proofs.SumLaw.{more_summed, none_summed, ran-summed}
 
 -- one bit: the two joins are its gates
@@ -81,39 +82,34 @@ module _ (m j weight : ℕ) (w : Sharing) {sum : Place → ℕ} {s : Place → S
             let share : Cong m (joined m (halfway i).half (last i) (y i)) (b i) = cong_trans (cong_of_eq same) (cong_sym (bit-near i)) in
             (cong_add (cong_refl (sum i)) (cong_mul (cong_refl weight) share)).same ∙ sym (total i)
 
-  bit_summed : {half b t t' : Sharing} {z : Place → ℕ} {c₀ c₁ c₂ t₀ t₁ t₂ d₀ d₁ d₂ h₀ h₁ h₂ : List ℕ}
+  bit_summed : {half b : Sharing} {z : Place → ℕ} {T c d e : Place → List ℕ}
       → 0 < m
-      → Long 1 c₀ c₁ c₂
-      → Long 1 (part_from 1 d₀) (part_from 1 d₁) (part_from 1 d₂)
-      → t ≡ items_at 0 t₀ t₁ t₂
-      → t' ≡ items_at 1 t₀ t₁ t₂
-      → Joins m one two (parts t) (three c₀ c₁ c₂) half (three d₀ d₁ d₂)
-      → Joins m (parts half) last (parts t') (parts_from 1 d₀ d₁ d₂) b (three h₀ h₁ h₂)
+      → ((i : Place) → 0 < length (c i))
+      → ((i : Place) → 0 < length (drop 1 (d i)))
+      → Joins m one two (heads T) c half d
+      → Joins m (parts half) last (heads (drops 1 T)) (drops 1 d) b (drops 1 e)
+      → ((i : Place) → take 1 (e i) ≡ take 1 (d i))
       → ((i : Place) → z i ≡ (sum i + weight * parts b i) % m)
-      → Summed (bit_gates word_bit m j weight) s (three t₀ t₁ t₂) (three c₀ c₁ c₂) z (put_back 1 d₀ d₁ d₂ h₀ h₁ h₂)
+      → Summed (bit_gates word_bit m j weight) s T c z e
   unfolding halfway
-  bit_summed {half} {b} {t} {t'} {z} {c₀} {c₁} {c₂} {t₀} {t₁} {t₂} pos room room' items items' joins joins' total =
-      let T : Place → List ℕ = three t₀ t₁ t₂ in
-      let U : Place → List ℕ = parts_from 1 t₀ t₁ t₂ in
-      let x : Place → ℕ = gated m one two (parts t) in
-      let y : Place → ℕ = gated m (parts half) last (parts t') in
-      let later : heads U ≡ parts t' = ap parts (items-next 1 t₀ t₁ t₂ ∙ sym items') in
-      let first = ran-gate (first_gate word_bit m j) s T (three c₀ c₁ c₂) x (rw (ap parts (sym items)) (first-words (parts t))) (rooms room) joins.stored in
-      let second = ran-gate (second_gate word_bit m j weight) (halfway x (parts half) joins.near) U _ y
-      (rw later (second-words x (parts half) joins.near (parts t'))) (rooms room') joins'.stored in
-      ran-summed (ran-three refl first second) (second_sums x (parts half) joins.near pos y (parts b) z joins'.near total)
+  bit_summed {half} {b} {z} {T} {c} {d} {e} pos room room' joins joins' kept total =
+      let x : Place → ℕ = gated m one two (heads T) in
+      let y : Place → ℕ = gated m (parts half) last (heads (drops 1 T)) in
+      let first = ran-gate (first_gate word_bit m j) s T c x (first-words (heads T)) room joins.stored in
+      let second = ran-gate (second_gate word_bit m j weight) (halfway x (parts half) joins.near) (drops 1 T) (drops 1 d) y
+      (second-words x (parts half) joins.near (heads (drops 1 T))) room' joins'.stored in
+      ran-summed (ran_then refl first second kept) (second_sums x (parts half) joins.near pos y (parts b) z joins'.near total)
 
-pub bit_joined : {m j : ℕ} {w half b t t' : Sharing} {c₀ c₁ c₂ t₀ t₁ t₂ d₀ d₁ d₂ h₀ h₁ h₂ : List ℕ}
+pub bit_joined : {m j : ℕ} {w half b : Sharing} {T c d e : Place → List ℕ}
     → 0 < m
-    → Long 1 c₀ c₁ c₂
-    → Long 1 (part_from 1 d₀) (part_from 1 d₁) (part_from 1 d₂)
-    → t ≡ items_at 0 t₀ t₁ t₂
-    → t' ≡ items_at 1 t₀ t₁ t₂
-    → Joins m (three (bit_of w.s0 j) 0 0) (three 0 (bit_of w.s1 j) 0) (parts t) (three c₀ c₁ c₂) half (three d₀ d₁ d₂)
-    → Joins m (parts half) (three 0 0 (bit_of w.s2 j)) (parts t') (parts_from 1 d₀ d₁ d₂) b (three h₀ h₁ h₂)
-    → JoinsBit m j (parts w) (three t₀ t₁ t₂) (three c₀ c₁ c₂) (parts b) (put_back 1 d₀ d₁ d₂ h₀ h₁ h₂)
-bit_joined {m} {j} {w} pos room room' items items' joins joins' =
-    record { adds = λ weight sum z s holds total. bit_summed m j weight w holds pos room room' items items' joins joins' total }
+    → ((i : Place) → 0 < length (c i))
+    → ((i : Place) → 0 < length (drop 1 (d i)))
+    → Joins m (three (bit_of w.s0 j) 0 0) (three 0 (bit_of w.s1 j) 0) (heads T) c half d
+    → Joins m (parts half) (three 0 0 (bit_of w.s2 j)) (heads (drops 1 T)) (drops 1 d) b (drops 1 e)
+    → ((i : Place) → take 1 (e i) ≡ take 1 (d i))
+    → JoinsBit m j (parts w) T c (parts b) e
+bit_joined {m} {j} {w} pos room room' joins joins' kept =
+    record { adds = λ weight sum z s holds total. bit_summed m j weight w holds pos room room' joins joins' kept total }
 
 -- the weight of the next bit
 doubled : {m : ℕ} (j k next : ℕ) → Cong m (2 ^ j) (2 ^ k) → Cong m (2 ^ next) (2 ^ (j + 1)) → Cong m (2 ^ next) (2 ^ (k + 1))
@@ -128,28 +124,26 @@ weighed m j k s b weighs stands =
     (cong_trans stands
     (cong_add (cong_sym (cong_mod m s)) (cong_mul (cong_trans weighs (cong_sym (cong_mod m (2 ^ k)))) (cong_refl b)))).same
 
--- k bits of w are composed: from the runs t and c to the sum and the runs d
-pub record Reached (m from count : ℕ) (w : Sharing) (t₀ t₁ t₂ c₀ c₁ c₂ : List ℕ) (k j : ℕ) (sum : Sharing) (d₀ d₁ d₂ : List ℕ) : Type 0 where
-  pub same : AsLong c₀ c₁ c₂ d₀ d₁ d₂
-  pub most : k ≤ count
+-- k bits of w are composed: from what was lent at first, u, to the sum and what is lent now, v
+pub record Reached (m from : ℕ) (w : Sharing) (u : Lent) (k j : ℕ) (sum : Sharing) (v : Lent) : Type 0 where
   pub weighs : Cong m (2 ^ j) (2 ^ k)
   pub range : InRange (m + m) sum
-  pub summed : Summed (compose_gates word_bit m from k) (tabled (λ i. summing_start (parts w i)))
-      (three t₀ t₁ t₂) (three c₀ c₁ c₂) (λ i. parts sum i % m) (three d₀ d₁ d₂)
+  pub sums : Sends (2 * k) (λ T c d. Summed (compose_gates word_bit m from k) (tabled (λ i. summing_start (parts w i))) T c (λ i. parts sum i % m) d) u v
 
-pub at-start : (m from count : ℕ) {w none : Sharing} {t₀ t₁ t₂ c₀ c₁ c₂ : List ℕ}
-    → 1 < m → none ≡ zeros → Reached m from count w t₀ t₁ t₂ c₀ c₁ c₂ 0 0 none c₀ c₁ c₂
-at-start m from count {w} {none} {t₀} {t₁} {t₂} {c₀} {c₁} {c₂} wide is =
+pub at-start : (m from : ℕ) {w none : Sharing} (u : Lent) → 1 < m → none ≡ zeros → Reached m from w u 0 0 none u
+at-start m from {w} {none} u wide is =
     record {
-      same = record { zero = refl; one = refl; two = refl };
-      most = omega arith;
       weighs = cong_refl 1;
       range = rw is (record { zero = omega arith; one = omega arith; two = omega arith });
-      summed = record { sums = λ i. begun.sums i ∙ nothing i; channels = begun.channels };
+      sums = record {
+        ahead = record { sums = λ i. begun.sums i ∙ nothing i; channels = begun.channels };
+        at = omega arith;
+        same = same_now u;
+      };
     }
   where
-    begun : Summed (compose_gates word_bit m from 0) (tabled (λ i. summing_start (parts w i))) (three t₀ t₁ t₂) (three c₀ c₁ c₂) (three 0 0 0) (three c₀ c₁ c₂)
-    begun = none_summed m from w (three t₀ t₁ t₂) (three c₀ c₁ c₂)
+    begun : Summed (compose_gates word_bit m from 0) (tabled (λ i. summing_start (parts w i))) (drops u.at (tapes u)) (drops u.at (channels u)) (three 0 0 0) (drops u.at (channels u))
+    begun = none_summed m from w (drops u.at (tapes u)) (drops u.at (channels u))
 
     zero_mod : 0 ≡ 0 % m
     zero_mod = sym (mod-eq_of_lt (omega arith))
@@ -157,38 +151,31 @@ at-start m from count {w} {none} {t₀} {t₁} {t₂} {c₀} {c₁} {c₂} wide 
     nothing : (i : Place) → three 0 0 0 i ≡ parts none i % m
     nothing = rw is (each (λ i. three 0 0 0 i ≡ parts zeros i % m) zero_mod zero_mod zero_mod)
 
-module _ {m from count : ℕ} {w : Sharing} {t₀ t₁ t₂ c₀ c₁ c₂ : List ℕ} {k j : ℕ} {sum : Sharing} {d₀ d₁ d₂ : List ℕ}
-    (reached : Reached m from count w t₀ t₁ t₂ c₀ c₁ c₂ k j sum d₀ d₁ d₂) where
+module _ {m from : ℕ} {w : Sharing} {u : Lent} {k j : ℕ} {sum : Sharing} {v : Lent} (reached : Reached m from w u k j sum v) where
   -- the next bit
-  pub went_on : {next : ℕ} {b z : Sharing} {e₀ e₁ e₂ : List ℕ}
-      → k < count
+  pub went_on : {next : ℕ} {b z : Sharing} {v' : Lent}
       → Cong m (2 ^ next) (2 ^ (j + 1))
       → InRange (m + m) z
-      → length e₀ ≡ length (part_from (2 * k) d₀)
-      → length e₁ ≡ length (part_from (2 * k) d₁)
-      → length e₂ ≡ length (part_from (2 * k) d₂)
-      → JoinsBit m (from + k) (parts w) (parts_from (2 * k) t₀ t₁ t₂) (parts_from (2 * k) d₀ d₁ d₂) (parts b) (three e₀ e₁ e₂)
+      → Sends 2 (λ T c d. JoinsBit m (from + k) (parts w) T c (parts b) d) v v'
       → ((i : Place) → Cong m (parts z i) (parts sum i + 2 ^ j * parts b i))
-      → Reached m from count w t₀ t₁ t₂ c₀ c₁ c₂ (k + 1) next z
-      (put_part (2 * k) d₀ e₀) (put_part (2 * k) d₁ e₁) (put_part (2 * k) d₂ e₂)
-  went_on {next} {b} {z} {e₀} {e₁} {e₂} more twice range l₀ l₁ l₂ bit total =
+      → Reached m from w u (k + 1) next z v'
+  went_on {next} {b} {z} twice range bit total =
       record {
-        same = record {
-          zero = same_len_mid (2 * k) (length d₀ - 2 * k) d₀ e₀ l₀ ∙ reached.same.zero;
-          one = same_len_mid (2 * k) (length d₁ - 2 * k) d₁ e₁ l₁ ∙ reached.same.one;
-          two = same_len_mid (2 * k) (length d₂ - 2 * k) d₂ e₂ l₂ ∙ reached.same.two;
-        };
-        most = omega arith;
         weighs = doubled j k next reached.weighs twice;
         range = range;
-        summed = more_summed m from k (2 ^ k % m) refl reached.summed
-            (λ s holds. bit.adds (2 ^ k % m) (λ i. parts sum i % m) (λ i. parts z i % m) s holds
-            (λ i. weighed m j k (parts sum i) (parts b i) reached.weighs (total i)));
+        sums = sends_count (omega arith) (sends_then reached.sums bit
+            (λ before joins kept. more_summed m from k (2 ^ k % m) refl before
+            (λ s holds. joins.adds (2 ^ k % m) (λ i. parts sum i % m) (λ i. parts z i % m) s holds
+            (λ i. weighed m j k (parts sum i) (parts b i) reached.weighs (total i)))
+            kept));
       }
 
   -- after the last, where the sums are reduced
-  pub all-summed : {z : Sharing} → count ≤ k → ((i : Place) → parts z i ≡ parts sum i % m)
-      → Summed (compose_gates word_bit m from count) (tabled (λ i. summing_start (parts w i))) (three t₀ t₁ t₂) (three c₀ c₁ c₂) (parts z) (three d₀ d₁ d₂)
-  all-summed done is =
-      let e : count ≡ k = omega (arith, reached.most) in
-      rw e (record { sums = λ i. reached.summed.sums i ∙ sym (is i); channels = reached.summed.channels })
+  pub all-summed : {z : Sharing} → ((i : Place) → parts z i ≡ parts sum i % m) → Sends (2 * k) (bits_summed m from k w z) u v
+  all-summed is =
+      let sums = reached.sums in
+      record {
+        ahead = record { sums = λ i. sums.ahead.sums i ∙ sym (is i); channels = sums.ahead.channels };
+        at = sums.at;
+        same = sums.same;
+      }

@@ -1,9 +1,10 @@
 -- 01, order 8, on lent runs: the sums that gates leave, whatever else the places keep.
 -- Used by the code's contracts alone: no theorem's statement speaks of it.
 use Rattle.std.specs.Prelude.{ℕ, ◌+◌, ◌*◌, ◌%◌, List, [], ◌∷◌, ◌++◌, ◌≡◌, drop, length}
-use Rattle.gate.specs.Places.{Place}
+use Rattle.gate.specs.Places.{Place, parts, tabled}
+use Rattle.gate.specs.declared.sharing.Sharing.{Sharing}
 use Rattle.circuit.specs.Circuits.{Gate, ends, sent}
-use Rattle.circuit.specs.Compose.{Summing, first_gate, second_gate}
+use Rattle.circuit.specs.Compose.{Summing, compose_gates, first_gate, second_gate, summing_start}
 use Rattle.circuit.specs.Orders.{word_bit}
 
 -- order 8, "two gates a bit": those of bit j
@@ -26,3 +27,7 @@ pub record JoinsBit (m j : ℕ) (w : Place → ℕ) (T c : Place → List ℕ) (
       → Holds w sum s
       → ((i : Place) → z i ≡ (sum i + weight * b i) % m)
       → Summed (bit_gates word_bit m j weight) s T c z d
+
+-- order 8, `count` bits of w from bit `from` on: gates modulo m leave their sum z
+abbrev pub bits_summed : (m from count : ℕ) → (w z : Sharing) → (T c d : Place → List ℕ) → Type 0
+bits_summed m from count w z T c d = Summed (compose_gates word_bit m from count) (tabled (λ i. summing_start (parts w i))) T c (parts z) d

@@ -1,24 +1,26 @@
 -- Each place adds its own share.
+use Prim.Native.Nat.{◌+◌, ◌*◌, ◌<◌, ◌^◌}
 use native.Mathlib.Omega.{arith}
+use Rattle.std.proofs.Common.{rules}
+use Rattle.ring.specs.Modular.{Cong}
 use Rattle.ring.proofs.RangeLaw.{sized_gt}
 use Rattle.gate.proofs.PlaceLaw.{each}
 use Rattle.compose.proofs.bits.add_weighted.Goals as goal
 
-pub returns : goal.returns
-returns c =
-    record {
-      is = each _ c.add_rotated-s0.ensures.is c.add_rotated-s1.ensures.is c.add_rotated-s2.ensures.is;
-      below = record { zero = c.add_rotated-s0.ensures.below; one = c.add_rotated-s1.ensures.below; two = c.add_rotated-s2.ensures.below };
-    }
+pub zip-requires-clause-zero : goal.zip-requires-clause-zero
+zip-requires-clause-zero c = let few : c.args.b.s0 < 5 * c.args.p = omega (arith, c.requires.bit, sized_gt c.requires.sized) in search rules
 
-pub add_rotated-s0-requires : goal.add_rotated-s0-requires
-add_rotated-s0-requires c =
-    omega (arith, c.requires.sized, sized_gt c.requires.sized)
+pub zip-requires-clause-one : goal.zip-requires-clause-one
+zip-requires-clause-one c = let few : c.args.b.s1 < 5 * c.args.p = omega (arith, c.requires.bit, sized_gt c.requires.sized) in search rules
 
-pub add_rotated-s1-requires : goal.add_rotated-s1-requires
-add_rotated-s1-requires c =
-    omega (arith, c.requires.sized, sized_gt c.requires.sized)
+pub zip-requires-clause-two : goal.zip-requires-clause-two
+zip-requires-clause-two c = let few : c.args.b.s2 < 5 * c.args.p = omega (arith, c.requires.bit, sized_gt c.requires.sized) in search rules
 
-pub add_rotated-s2-requires : goal.add_rotated-s2-requires
-add_rotated-s2-requires c =
-    omega (arith, c.requires.sized, sized_gt c.requires.sized)
+pub returns-clause-is : goal.returns-clause-is
+returns-clause-is c =
+    let a = c.args in
+    let z = c.zip.result in
+    let e₀ : Cong a.p z.s0 (a.sum.s0 + 2 ^ a.j * a.b.s0) = search rules in
+    let e₁ : Cong a.p z.s1 (a.sum.s1 + 2 ^ a.j * a.b.s1) = search rules in
+    let e₂ : Cong a.p z.s2 (a.sum.s2 + 2 ^ a.j * a.b.s2) = search rules in
+    each _ e₀ e₁ e₂

@@ -1,25 +1,32 @@
 -- Invariant: k bits are composed.
+use Prim.Native.Nat.{◌*◌}
+use mathlib.Core.Path.{◌≡◌}
 use native.Mathlib.Omega.{arith}
 use Rattle.ring.specs.Rings.{Sized}
 use Rattle.ring.proofs.RangeLaw.{sized, sized_gt}
+use Rattle.circuit.proofs.LoanLaw.{supplied_later}
 use Rattle.compose.proofs.TurnLaw.{all-summed, at-start, went_on}
 use Rattle.compose.proofs.bits.compose_bits.Goals as goal
 
 pub loop-k-init : goal.loop-k-init
 loop-k-init c =
     let known : Sized c.width-e.result c.modulus-p.result = sized c.args.r c.width-e.ensures c.modulus-p.ensures in
-    let args = c.args in
-    (at-start c.modulus-p.result args.from args.count (omega (arith, sized_gt known)) c.zeros-sum.ensures, omega (arith, known))
+    (at-start c.modulus-p.result c.args.from _ (omega (arith, sized_gt known)) c.zeros-sum.ensures, omega (arith, known))
+
+pub join_bit-b-requires-clause-supplied : goal.join_bit-b-requires-clause-supplied
+join_bit-b-requires-clause-supplied c =
+    rw (← c.modulus-p.ensures) at (supplied_later (2 * c.loop-k.k) 2 (omega arith) c.requires.supplied c.loop-k.invariant.0.sums)
 
 pub loop-k-preserved : goal.loop-k-preserved
 loop-k-preserved c =
     let known : Sized c.width-e.result c.modulus-p.result = sized c.args.r c.width-e.ensures c.modulus-p.ensures in (
-      went_on c.loop-k.invariant.0 c.loop-k-test.true (rw known.is c.next_power-power.ensures.is) c.add_weighted-sum.ensures.below
-          c.join_bit-b.auto.c0 c.join_bit-b.auto.c1 c.join_bit-b.auto.c2 c.join_bit-b.ensures.is c.add_weighted-sum.ensures.is,
+      went_on c.loop-k.invariant.0 (rw known.is c.next_power-power.ensures.is) c.add_weighted-sum.ensures.below
+          c.join_bit-b.ensures.is c.add_weighted-sum.ensures.is,
       c.next_power-power.ensures.below,
     )
 
 pub returns : goal.returns
 returns c =
+    let all : c.loop-k.k ≡ c.args.count = omega arith in
     rw (← c.modulus-p.ensures)
-    record { is = all-summed c.loop-k.invariant.0 c.loop-k-test.false c.reduce_sums.ensures.is; below = c.reduce_sums.ensures.below }
+    record { is = rw all at (all-summed c.loop-k.invariant.0 c.reduce_sums.ensures.is); below = c.reduce_sums.ensures.below }

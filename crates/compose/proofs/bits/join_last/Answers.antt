@@ -1,27 +1,28 @@
 -- Each place's share is at most twice the modulus and what it joins.
+use mathlib.Core.Path.{◌≡◌}
 use native.Mathlib.Omega.{arith}
+use Rattle.std.proofs.Common.{rules}
 use Rattle.ring.proofs.RangeLaw.{sized_lt}
-use Rattle.gate.specs.Places.{p0, p1, p2}
-use Rattle.compose.proofs.StepLaw.{joins}
+use Rattle.gate.specs.Gates.{gated}
+use Rattle.gate.specs.Places.{p0, p1, p2, parts, sharing, three}
+use Rattle.circuit.specs.Loans.{items_next}
+use Rattle.compose.proofs.StepLaw.{joins_sent}
 use Rattle.compose.proofs.bits.join_last.Goals as goal
 
-pub join_shares-requires : goal.join_shares-requires
-join_shares-requires c =
-    record {
-      room = sized_lt c.requires.sized;
-      left = c.requires.half;
-      right = record { zero = omega arith; one = omega arith; two = omega arith };
-      product = c.ring_gate_by_bit-z.ensures.below;
-    }
+pub join_shares-requires-clause-room : goal.join_shares-requires-clause-room
+join_shares-requires-clause-room c = sized_lt c.requires.sized
 
-pub returns : goal.returns
-returns c =
+pub returns-clause-is : goal.returns-clause-is
+returns-clause-is c =
+    let b₂ = c.bit-b2 in
+    let word : c.gate-z.result ≡ sharing (gated c.args.p (parts c.args.half) (three 0 0 b₂.result) (parts (items_next c.args.lent.now)))
+    = search rules in
+    rw b₂.ensures.is at (joins_sent _ _ word c.gate-z.ensures.sent (λ i. (c.join_shares.ensures i).near))
+
+pub returns-clause-below : goal.returns-clause-below
+returns-clause-below c =
     record {
-      is = rw c.bit-b2.ensures.is at (joins _ _ c.ring_gate_by_bit-z.ensures.is c.ring_gate_by_bit-z.ensures.sent
-          (λ i. (c.join_shares.ensures i).near));
-      below = record {
-        zero = omega (arith, c.requires.half, (c.join_shares.ensures p0).most);
-        one = omega (arith, c.requires.half, (c.join_shares.ensures p1).most);
-        two = omega (arith, c.requires.half, (c.join_shares.ensures p2).most, c.bit-b2.ensures.below);
-      };
+      zero = omega (arith, c.requires.half, (c.join_shares.ensures p0).most);
+      one = omega (arith, c.requires.half, (c.join_shares.ensures p1).most);
+      two = omega (arith, c.requires.half, (c.join_shares.ensures p2).most, c.bit-b2.ensures.below);
     }

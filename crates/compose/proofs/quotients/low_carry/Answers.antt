@@ -1,18 +1,34 @@
 -- The bits are shared as the majority wants them; the last share of the carry is the third bit's and the word's.
 use mathlib.Core.Path.{refl}
+use native.Mathlib.Omega.{arith}
 use lib.Bits.{xor_lt}
+use Rattle.std.proofs.Common.{rules}
+use Rattle.gate.specs.Places.{InRange}
+use Rattle.gate.specs.Words.{BitWords}
+use Rattle.gate.specs.declared.sharing.Sharing.{Sharing}
+use Rattle.circuit.specs.Loans.{items_next}
+use Rattle.circuit.proofs.LoanLaw.{heads_next, next_below, sends_said}
 use Rattle.compose.proofs.QuotientLaw.{carries_of}
 use Rattle.compose.proofs.quotients.low_carry.Goals as goal
 
 pub returns : goal.returns
 returns c =
+    let t = items_next c.args.lent.now in
+    let b₀ = c.bit-b0 in
+    let b₁ = c.bit-b1 in
+    let b₂ = c.bit-b2 in
+    let x : Sharing = record { s0 = b₀.result; s1 = 0; s2 = b₂.result } in
+    let y : Sharing = record { s0 = 0; s1 = b₁.result; s2 = b₂.result } in
+    let words : InRange 2 x → InRange 2 y → InRange 2 t → BitWords x y t c.gate-z.result = search rules in
+    let word = words (record { zero = b₀.ensures.below; one = omega arith; two = b₂.ensures.below })
+    (record { zero = omega arith; one = b₁.ensures.below; two = b₂.ensures.below }) (next_below (omega arith) c.requires) in
     record {
-      is = carries_of c.bit-b0.ensures.is c.bit-b1.ensures.is c.bit-b2.ensures.is
-          c.bit-b0.ensures.below c.bit-b1.ensures.below c.bit-b2.ensures.below
-          c.items_at-t.ensures c.bit_gate-z.ensures.is c.bit_gate-z.ensures.below c.bit_gate-z.ensures.sent refl;
+      is = sends_said c.gate-z.ensures.sent
+          (λ sent. carries_of b₀.ensures.is b₁.ensures.is b₂.ensures.is b₀.ensures.below b₁.ensures.below b₂.ensures.below
+          (rw (heads_next c.args.lent.now) word.is) word.below sent refl);
       below = record {
-        zero = c.bit_gate-z.ensures.below.zero;
-        one = c.bit_gate-z.ensures.below.one;
-        two = xor_lt 1 _ _ c.bit-b2.ensures.below c.bit_gate-z.ensures.below.two;
+        zero = word.below.zero;
+        one = word.below.one;
+        two = xor_lt 1 _ _ b₂.ensures.below word.below.two;
       };
     }
