@@ -1,4 +1,5 @@
 -- From verdicts, items and lent runs to what 01 says of a task.
+use Rattle.std.specs.Prelude.{Result, Ok, Err}
 use Prim.Native.Nat.{ℕ, ◌+◌, ◌-◌}
 use mathlib.Core.Bool.{Bool, false, not, true}
 use mathlib.Core.List.{List, [], ◌++◌, append-nil}
@@ -23,14 +24,14 @@ use Rattle.machine.specs.declared.answers.Refusal.{Refusal}
 use Rattle.machine.specs.declared.answers.Refusal.TheVariants.{BadItem}
 use Rattle.machine.specs.declared.registers.Machine.{Machine}
 use Rattle.machine.specs.declared.registers.Register.{Register}
-use Rattle.order.specs.Answers.{verdict_of}
-use Rattle.order.specs.Attempts.{At, attempted, length_verdict, lengths_of, masks_left, positions, ran, tried}
+use Rattle.machine.specs.Answers.{number_of}
+use Rattle.order.specs.Attempts.{attempted, length_verdict, lengths_of, masks_left, ran, tried}
 use Rattle.order.specs.Changes.{Changes}
 use Rattle.order.specs.Tasks.{Fit, Ready, Seated, circuit_of, kind_left, other_of, source_of}
-use Rattle.order.specs.declared.answers.Verdict.{Verdict}
-use Rattle.order.specs.declared.answers.Verdict.TheVariants.{Because, Fine}
+use Rattle.order.specs.Sources.{positions_in, public_at}
+use Rattle.order.specs.declared.sources.Positions.{Positions}
 use Rattle.order.specs.declared.changes.Change.{Change}
-use Rattle.order.specs.declared.changes.Change.TheVariants.{Refused, Stored}
+use Rattle.order.specs.declared.changes.Change.TheVariants.{Stored}
 use Rattle.order.specs.declared.tasks.Cost.{Cost}
 use Rattle.order.specs.declared.tasks.Prepared.{Prepared}
 use Rattle.order.specs.declared.tasks.Prepared.TheVariants.{Gates, Local}
@@ -43,10 +44,10 @@ use Rattle.attempt.proofs.SupplyLaw.{gates_cost}
 
 -- what an accepted order has of the record
 module _ (m : Machine) (d : ℕ) {t : Prepared} where
-  pub ready_local : {r : Register} → t ≡ Local r → Ready m d t → Seated m d
+  pub ready_local : {r : Register} → t ≡ Local r → Ready m d (Ok t) → Seated m d
   ready_local e h = rw e at h
 
-  pub ready_gates : {g : Task} → t ≡ Gates g → Ready m d t → Seated m d × Fit g
+  pub ready_gates : {g : Task} → t ≡ Gates g → Ready m d (Ok t) → Seated m d × Fit g
   ready_gates e h = rw e at h
 
 -- three runs that are even
@@ -58,19 +59,18 @@ even a b c e =
     )
 
 -- no check of lengths refuses: enough is left on each run
-pub long_enough : (at ch n : ℕ) (t₀ t₁ t₂ c₀ c₁ c₂ : List ℕ) {v : Verdict}
-    → verdict_of v ≡ first_met (gate_checks n (positions at ch) (lengths_of (three t₀ t₁ t₂) (three c₀ c₁ c₂)))
-    → v ≡ Fine
-    → Long (at + n) t₀ t₁ t₂ × Long (ch + n) c₀ c₁ c₂
-long_enough at ch n t₀ t₁ t₂ c₀ c₁ c₂ verdict is =
-    let fine = sym verdict ∙ ap verdict_of is in
+pub long_enough : (at : Positions) (n : ℕ) (t₀ t₁ t₂ c₀ c₁ c₂ : List ℕ)
+    → 0 ≡ first_met (gate_checks n (public_at at) (lengths_of (three t₀ t₁ t₂) (three c₀ c₁ c₂)))
+    → Long (at.masks + n) t₀ t₁ t₂ × Long (at.channels + n) c₀ c₁ c₂
+long_enough at n t₀ t₁ t₂ c₀ c₁ c₂ verdict =
+    let fine = sym verdict in
     let both = unmet _ 8 _ refl fine in
     let later = unmet_rest _ 8 _ refl fine in
     let last = unmet_rest _ 9 _ refl later in
     let masks = even (length t₀) (length t₁) (length t₂) (one_false _ _ both) in
     let channels = even (length c₀) (length c₁) (length c₂) (other_false (uneven (three (length t₀) (length t₁) (length t₂))) _ both) in
-    let enough = ltb-false (length t₀) (at + n) (unmet _ 9 _ refl later) in
-    let room = ltb-false (length c₀) (ch + n) (unmet _ 11 _ refl last) in (
+    let enough = ltb-false (length t₀) (at.masks + n) (unmet _ 9 _ refl later) in
+    let room = ltb-false (length c₀) (at.channels + n) (unmet _ 11 _ refl last) in (
       record { zero = omega arith; one = omega arith; two = omega arith },
       record { zero = omega arith; one = omega arith; two = omega arith },
     )
@@ -86,52 +86,52 @@ put_written k n u ws h counted is =
     (append-nil h ∙ is ∙ ap₂ (λ (j : ℕ) (l : List ℕ). ws ++ drop j l) (sym counted) (part_is k u)
     ∙ ap (λ (l : List ℕ). ws ++ l) (drop-drop (length ws) k u))
 
-module _ (t : Task) (d : ℕ) {m : Machine} {at ch : ℕ} {k : Cost} (cost : Costs t k) (of : At m at ch) where
+module _ (t : Task) (d : ℕ) (m : Machine) {at : Positions} {k : Cost} (cost : Costs t k) (of : at ≡ positions_in m) where
   -- checks of lengths that refuse, or do not
-  module _ (T c : Place → List ℕ) {v : Verdict} (verdict : verdict_of v ≡ first_met (gate_checks (k.bits + k.ring) (positions at ch) (lengths_of T c))) where
-    is_verdict : {u : Verdict} → v ≡ u → length_verdict t m T c ≡ verdict_of u
-    is_verdict e = rw (gates_cost cost) (sym (rw (of.masks, of.channels) at verdict) ∙ ap verdict_of e)
+  module _ (T c : Place → List ℕ) {n : ℕ} (verdict : n ≡ first_met (gate_checks (k.bits + k.ring) (public_at at) (lengths_of T c))) where
+    is_verdict : length_verdict t m T c ≡ n
+    is_verdict = rw (gates_cost cost) (sym (rw of at verdict))
 
-    pub short : {w : Refusal} → v ≡ Because w → Changes m (Refused w) c (attempted (Gates t) d m T c)
+    pub short : (w : Refusal) → n ≡ number_of w → Changes m (Err w) c (attempted (Ok (Gates t)) d m T c)
     unfolding attempted
-    short {w} e = record { fits = tt; is = rw (is_verdict e, numbered w) }
+    short w e = record { fits = tt; is = rw (is_verdict ∙ e, numbered w) }
 
-    pub enough : {r : Change} {l : Place → List ℕ} → v ≡ Fine → Changes m r l (tried t d m T c) → Changes m r l (attempted (Gates t) d m T c)
+    pub enough : {r : Result Change Refusal} {l : Place → List ℕ} → n ≡ 0 → Changes m r l (tried t d m T c) → Changes m r l (attempted (Ok (Gates t)) d m T c)
     unfolding attempted
-    enough e done = rw (is_verdict e) done
+    enough e done = rw (is_verdict ∙ e) done
 
   module _ (t₀ t₁ t₂ c₀ c₁ c₂ : List ℕ) {bad : Bool}
-      (found : bad ≡ any_bad (replicate k.bits 2 ++ replicate k.ring k.modulus) (parts_from at t₀ t₁ t₂)) where
-    is_left : parts_from at t₀ t₁ t₂ ≡ masks_left m (three t₀ t₁ t₂)
-    is_left = rw (part_is at t₀, part_is at t₁, part_is at t₂, of.masks)
+      (found : bad ≡ any_bad (replicate k.bits 2 ++ replicate k.ring k.modulus) (parts_from at.masks t₀ t₁ t₂)) where
+    is_left : parts_from at.masks t₀ t₁ t₂ ≡ masks_left m (three t₀ t₁ t₂)
+    is_left = rw (part_is at.masks t₀, part_is at.masks t₁, part_is at.masks t₂, of)
 
     is_bad : any_bad (moduli (circuit_of t).gates) (masks_left m (three t₀ t₁ t₂)) ≡ bad
     is_bad = ap₂ any_bad cost.moduli (sym is_left) ∙ sym found
 
     -- an item out of range
-    pub bad_tried : bad ≡ true → Changes m (Refused BadItem) (three c₀ c₁ c₂) (tried t d m (three t₀ t₁ t₂) (three c₀ c₁ c₂))
+    pub bad_tried : bad ≡ true → Changes m (Err BadItem) (three c₀ c₁ c₂) (tried t d m (three t₀ t₁ t₂) (three c₀ c₁ c₂))
     unfolding tried
     bad_tried e = record { fits = tt; is = rw (is_bad ∙ e) }
 
     -- none, and what the gates leave
     pub gates-tried : {z : Sharing} {h₀ h₁ h₂ : List ℕ} {r : Register} → bad ≡ false → Seated m d
-        → Left (circuit_of t) (parts (source_of t)) (parts (other_of t)) (parts_from at t₀ t₁ t₂) (parts_from ch c₀ c₁ c₂) z (three h₀ h₁ h₂)
+        → Left (circuit_of t) (parts (source_of t)) (parts (other_of t)) (parts_from at.masks t₀ t₁ t₂) (parts_from at.channels c₀ c₁ c₂) z (three h₀ h₁ h₂)
         → r ≡ register_of (kind_left t) z
-        → Changes m (Stored d r (k.bits + k.ring) 0) (put_back ch c₀ c₁ c₂ h₀ h₁ h₂) (tried t d m (three t₀ t₁ t₂) (three c₀ c₁ c₂))
+        → Changes m (Ok (Stored d r (k.bits + k.ring) 0)) (put_back at.channels c₀ c₁ c₂ h₀ h₁ h₂) (tried t d m (three t₀ t₁ t₂) (three c₀ c₁ c₂))
     unfolding tried ran channelled
     gates-tried {z} {h₀} {h₁} {h₂} {r} e seat left kept =
         let C = circuit_of t in
         let X = parts (source_of t) in
         let Y = parts (other_of t) in
-        let P = parts_from at t₀ t₁ t₂ in
+        let P = parts_from at.masks t₀ t₁ t₂ in
         let shares : r ≡ register_of (kind_left t) (sharing (result C X Y (masks_left m (three t₀ t₁ t₂))))
         = kept ∙ ap (λ (q : Place → ℕ). register_of (kind_left t) (sharing q)) (left.is ∙ ap (λ (T : Place → List ℕ). result C X Y T) is_left) in
-        let put : (i : Place) (u h : List ℕ) → h ≡ channelled C X Y P i ++ drop (gates_of C) (mid_of ch (length u - ch) u)
-        → put_mid ch (length u - ch) u h ≡ written m.channels_at (channelled C X Y (masks_left m (three t₀ t₁ t₂)) i) u
+        let put : (i : Place) (u h : List ℕ) → h ≡ channelled C X Y P i ++ drop (gates_of C) (mid_of at.channels (length u - at.channels) u)
+        → put_mid at.channels (length u - at.channels) u h ≡ written m.channels_at (channelled C X Y (masks_left m (three t₀ t₁ t₂)) i) u
         = λ i u h head.
-        put_written ch (gates_of C) u (channelled C X Y P i) h (length-sent C.gates (starts C X Y) P i) head
-        ∙ ap₂ (λ (n : ℕ) (T : Place → List ℕ). written n (channelled C X Y T i) u) of.channels is_left in
-        let same : put_back ch c₀ c₁ c₂ h₀ h₁ h₂
+        put_written at.channels (gates_of C) u (channelled C X Y P i) h (length-sent C.gates (starts C X Y) P i) head
+        ∙ ap₂ (λ (n : ℕ) (T : Place → List ℕ). written n (channelled C X Y T i) u) (ap (λ (q : Positions). q.channels) of) is_left in
+        let same : put_back at.channels c₀ c₁ c₂ h₀ h₁ h₂
         ≡ tabled (λ i. written m.channels_at (channelled C X Y (masks_left m (three t₀ t₁ t₂)) i) (three c₀ c₁ c₂ i))
         = rw (put p0 c₀ h₀ (left.channels p0), put p1 c₁ h₁ (left.channels p1), put p2 c₂ h₂ (left.channels p2)) in
         record {

@@ -7,7 +7,7 @@ ghost use Rattle.machine.specs.Checks.{any_bad};
 use order::Cost;
 
 // The top bit of a word.
-const TOP: u64 = 9_223_372_036_854_775_808;
+const TOP: u64 = 1 << 63;
 
 // A word that has the top bit just where w is p or more: w has it, or w with that bit set keeps it when p is taken away.
 fn beyond(p: u64, w: u64) -> u64
@@ -17,33 +17,29 @@ fn beyond(p: u64, w: u64) -> u64
     w | ((w | TOP) - p)
 }
 
-// Whether one of the first n items of the three tapes is p or more. No item is tested by itself, so time does not tell which.
+// Whether one of the first n items of the three tapes is p or more, the three by one index: a zip of zips is no plainer. No item is tested by itself, so time does not tell which.
 pub fn any_outside(p: u64, n: u64, m0: &[u64], m1: &[u64], m2: &[u64]) -> bool
     requires modulus { p ≤ 2 ^ 63 }
     requires long { Long n m0.now m1.now m2.now }
     ensures { result ≡ any_bad (replicate n p) (three m0.now m1.now m2.now) }
 {
     let mut all = 0;
-    let mut k = 0;
-    while k < n {
+    for k in 0..n {
         let i = k as usize;
         all = all | (beyond(p, m0[i]) | (beyond(p, m1[i]) | beyond(p, m2[i])));
-        k += 1;
     }
     TOP <= all
 }
 
-// The same for bits, which are below 2: the items united show it as they are, in fewer steps.
+// The same for bits, which are below 2: the items united show it as they are, in a third of the steps, so this is a loop of its own.
 fn any_wider(n: u64, m0: &[u64], m1: &[u64], m2: &[u64]) -> bool
     requires { Long n m0.now m1.now m2.now }
     ensures { result ≡ any_bad (replicate n 2) (three m0.now m1.now m2.now) }
 {
     let mut all = 0;
-    let mut k = 0;
-    while k < n {
+    for k in 0..n {
         let i = k as usize;
         all = all | (m0[i] | (m1[i] | m2[i]));
-        k += 1;
     }
     2 <= all
 }

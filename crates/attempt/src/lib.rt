@@ -3,7 +3,9 @@
 
 mod attempts;
 mod items;
+mod lengths;
 mod words;
 
 pub use attempts::{attempt, room};
 pub use items::any_outside;
+pub use lengths::Lengths;

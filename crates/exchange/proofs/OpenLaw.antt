@@ -1,4 +1,5 @@
 -- Order 9: its checks as the code makes them, its words and its step.
+use Rattle.std.specs.Prelude.{Ok, Err}
 use Prim.Native.Nat.{ℕ, ◌+◌, ◌-◌, ◌<◌, ◌≤◌}
 use mathlib.Core.Bool.{Bool, false, not, true}
 use mathlib.Core.List.{List, [], ◌∷◌, ◌++◌}
@@ -16,24 +17,23 @@ use Rattle.gate.specs.declared.sharing.Sharing.{Sharing}
 use Rattle.gate.proofs.PlaceLaw.{each}
 use Rattle.circuit.proofs.LentLaw.{part_is}
 use Rattle.machine.specs.Checks.{Tapes, first_met, is_empty, public_checks, uneven}
-use Rattle.machine.specs.Registers.{kind_of, shares_of, sound_register}
+use Rattle.machine.specs.Registers.{kind_of, register_at, shares_of, sound, sound_register}
 use Rattle.machine.specs.Step.{checks, opened, step, value_of, written}
-use Rattle.machine.specs.declared.answers.Answer.{Answer}
-use Rattle.machine.specs.declared.answers.Answer.TheVariants.{Refused}
+use Rattle.machine.specs.Answers.{number_of}
 use Rattle.machine.specs.declared.answers.Refusal.{Refusal}
 use Rattle.machine.specs.declared.orders.Order.TheVariants.{Open}
 use Rattle.machine.specs.declared.registers.Machine.{Machine}
 use Rattle.machine.specs.declared.registers.Register.{Register}
-use Rattle.order.specs.Answers.{refusal_of}
-use Rattle.order.specs.Attempts.{Sources}
+use Rattle.order.specs.Sources.{sources_in}
+use Rattle.order.specs.declared.sources.Sources.{Sources}
 use Rattle.order.specs.Changes.{Changes, applied}
 use Rattle.order.specs.declared.changes.Change.TheVariants as change
-use Rattle.order.proofs.CheckLaw.{met, passed, unmet, unmet_rest}
+use Rattle.order.proofs.CheckLaw.{all_passed, met, passed, unmet, unmet_rest}
 use Rattle.order.proofs.PrepareLaw.{kind_of_lem}
 use Rattle.machine.proofs.KindLaw.{one_false, other_false}
 use Rattle.order.proofs.SoundLaw.{register_sound}
 use Rattle.exchange.specs.Exchanges.{channel_checks, open_checks}
-use Rattle.exchange.proofs.CheckLaw.{begun, good, last_passed, others, step-performed, step-refused, there}
+use Rattle.exchange.proofs.CheckLaw.{good, others, step-performed, step-refused, there}
 
 -- room for a word at a position, one check after another
 module _ (l₀ l₁ l₂ at : ℕ) where
@@ -45,24 +45,16 @@ module _ (l₀ l₁ l₂ at : ℕ) where
     channel_short h = passed 8 _ even (met 11 [] (lt-ltb l₀ (at + 1) (omega arith)))
 
     pub channel_fits : at < l₀ → 0 ≡ first_met (channel_checks (three l₀ l₁ l₂) at)
-    channel_fits h = passed 8 _ even (last_passed 11 (le-ltb l₀ (at + 1) (omega arith)))
-
--- with the check of x
-module _ (s : Bool) (x : ℕ) (a : Register) (at : ℕ) (n : Place → ℕ) {t : Bool} (sure : not s ≡ false) (named : x ≤ 15) (test : t ≡ is_empty (kind_of a)) where
-  pub source_empty : t ≡ true → 3 ≡ first_met (open_checks s x a at n)
-  source_empty h = begun s x _ sure named (met 3 _ (sym test ∙ h))
-
-  pub source_there : {u : ℕ} → t ≡ false → u ≡ first_met (channel_checks n at) → u ≡ first_met (open_checks s x a at n)
-  source_there h rest = begun s x _ sure named (passed 3 _ (sym test ∙ h) rest)
+    channel_fits h = passed 8 _ even (all_passed 11 (le-ltb l₀ (at + 1) (omega arith)))
 
 -- what an accepted opening has passed
-module _ (s : Bool) (x : ℕ) (a : Register) (at l₀ l₁ l₂ : ℕ) (fine : first_met (open_checks s x a at (three l₀ l₁ l₂)) ≡ 0) where
-  pub open_sound : {m : Machine} → Sources m s x a x a → sound_register a ≡ true
-  open_sound {m} of = ap sound_register of.first ∙ register_sound m (sym of.sound ∙ good s x _ fine) x
+module _ (s : Bool) (x : ℕ) (a : Register) (at l₀ l₁ l₂ : ℕ) (fine : 0 ≡ first_met (open_checks s x a at (three l₀ l₁ l₂))) where
+  pub open_sound : (m : Machine) → s ≡ sound m → a ≡ register_at m x → sound_register a ≡ true
+  open_sound m sure at = ap sound_register at ∙ register_sound m (sym sure ∙ good s x _ (sym fine)) x
 
   pub open_room : (at < l₀) × ((at < l₁) × (at < l₂))
   open_room =
-      let wires = unmet_rest (is_empty (kind_of a)) 3 _ refl (others s x _ fine) in
+      let wires = unmet_rest (is_empty (kind_of a)) 3 _ refl (others s x _ (sym fine)) in
       let even = unmet (uneven (three l₀ l₁ l₂)) 8 _ refl wires in
       let room = ltb-false l₀ (at + 1) (unmet (ltb l₀ (at + 1)) 11 [] refl (unmet_rest (uneven (three l₀ l₁ l₂)) 8 _ refl wires)) in
       let first = eqb-true l₀ l₁ (not-false _ (one_false (not (eqb l₀ l₁)) _ even)) in
@@ -94,23 +86,23 @@ all-written a at c₀ c₁ c₂ {d₀} {d₁} {d₂} room e =
     (one_written at c₂ a.s0 room.1.1 e.two))
 
 -- the step
-module _ (m : Machine) (x : ℕ) (T : Tapes) (c : Place → List ℕ) {s : Bool} {a : Register} {at : ℕ} (of : Sources m s x a x a) (place : at ≡ m.channels_at) where
-  checks_are : {u : ℕ} → u ≡ first_met (open_checks s x a at (tabled (λ i. length (c i)))) → u ≡ first_met (checks (Open x) m T c)
+module _ (m : Machine) (x : ℕ) (T : Tapes) (c : Place → List ℕ) {s : Sources} {at : ℕ} (of : s ≡ sources_in m (Open x)) (place : at ≡ m.channels_at) where
+  checks_are : {u : ℕ} → u ≡ first_met (open_checks s.sound x s.a at (tabled (λ i. length (c i)))) → u ≡ first_met (checks (Open x) m T c)
   unfolding checks public_checks first_met
-  checks_are h = rw (place, kind_of_lem m x of.first, of.sound) at h
+  checks_are h = rw (place, of, kind_of_lem m x refl) at h
 
-  pub open_refused : {v : Answer} {w : Refusal} → v ≡ Refused w → refusal_of v ≡ first_met (open_checks s x a at (tabled (λ i. length (c i))))
-      → Changes m (change.Refused w) c (step (Open x) m T c)
-  open_refused is h = step-refused (Open x) m T c is (checks_are h)
+  pub open_refused : (w : Refusal) → number_of w ≡ first_met (open_checks s.sound x s.a at (tabled (λ i. length (c i))))
+      → Changes m (Err w) c (step (Open x) m T c)
+  open_refused w h = step-refused (Open x) m T c w (checks_are h)
 
-  pub open_done : {z : Sharing} {v : ℕ} {d : Place → List ℕ} → first_met (open_checks s x a at (tabled (λ i. length (c i)))) ≡ 0
-      → v ≡ value_of a → z ≡ shares_of a → d ≡ tabled (λ i. written at (parts z (next i) ∷ []) (c i))
-      → Changes m (change.Opened v) d (step (Open x) m T c)
+  pub open_done : {z : Sharing} {v : ℕ} {d : Place → List ℕ} → 0 ≡ first_met (open_checks s.sound x s.a at (tabled (λ i. length (c i))))
+      → v ≡ value_of s.a → z ≡ shares_of s.a → d ≡ tabled (λ i. written at (parts z (next i) ∷ []) (c i))
+      → Changes m (Ok (change.Opened v)) d (step (Open x) m T c)
   unfolding opened
   open_done {z} {v} {d} fine value shares words =
-      let is : applied (change.Opened v) m d ≡ opened x m c = rw (words, shares, value, place, of.first) in
-      let seat = there s x _ fine m of.sound in
+      let is : applied (Ok (change.Opened v)) m d ≡ opened x m c = rw (words, shares, value, place, of) in
+      let seat = there s.sound x _ (sym fine) m (ap (λ (s : Sources). s.sound) of) in
       record {
         fits = (seat.masks, seat.channels, seat.dealer);
-        is = is ∙ step-performed (Open x) m T c (checks_are (sym fine));
+        is = is ∙ step-performed (Open x) m T c (checks_are fine);
       }

@@ -1,42 +1,38 @@
 // Order 9: a register's value goes out.
 ghost use Rattle.std.specs.Prelude.{[], ◌∷◌, ◌≡◌, ◌<◌, length};
+ghost use Rattle.gate.specs.Lent.{at_entry_mut, at_exit};
 ghost use Rattle.gate.specs.Places.{next, parts, tabled, three};
 ghost use Rattle.machine.specs.Checks.{Tapes, first_met};
 ghost use Rattle.machine.specs.Step.{step, written};
-ghost use Rattle.order.specs.Answers.{refusal_of};
-ghost use Rattle.order.specs.Attempts.{Sources};
+ghost use Rattle.order.specs.Answers.{verdict_of};
 ghost use Rattle.order.specs.Changes.{Changes};
+ghost use Rattle.order.specs.Sources.{sources_in};
 ghost use Rattle.exchange.specs.Exchanges.{channel_checks, open_checks};
 
 use gate::{Sharing, send};
-use machine::{Answer, Machine, Order, Refusal, Register};
-use order::{Change, uneven};
+use machine::{Machine, Order, Refusal};
+use order::{Change, Sources, begin, uneven};
 
 // Checks 8 and 11: room for a word at a position of channels of these lengths.
-fn channels_why(l0: u64, l1: u64, l2: u64, at: u64) -> Answer
-    ensures { refusal_of result ≡ first_met (channel_checks (three l0 l1 l2) at) }
+fn channels_why(l0: u64, l1: u64, l2: u64, at: u64) -> Result<(), Refusal>
+    ensures { verdict_of result ≡ first_met (channel_checks (three l0 l1 l2) at) }
 {
     if uneven(l0, l1, l2) {
-        return Answer::Refused(Refusal::BadLength);
+        return Err(Refusal::BadLength);
     }
     if l0 <= at {
-        return Answer::Refused(Refusal::ChannelShort);
+        return Err(Refusal::ChannelShort);
     }
-    Answer::Done { value: 0, gates: 0 }
+    Ok(())
 }
 
 // All checks of an opening.
-fn open_why(sound: bool, x: u64, a: Register, at: u64, l0: u64, l1: u64, l2: u64) -> Answer
-    ensures { refusal_of result ≡ first_met (open_checks sound x a at (three l0 l1 l2)) }
+fn open_why(s: Sources, x: u64, at: u64, l0: u64, l1: u64, l2: u64) -> Result<(), Refusal>
+    ensures { verdict_of result ≡ first_met (open_checks s.sound x s.a at (three l0 l1 l2)) }
 {
-    if !sound {
-        return Answer::Refused(Refusal::Unsound);
-    }
-    if 15 < x {
-        return Answer::Refused(Refusal::NoRegister);
-    }
-    if a.is_empty() {
-        return Answer::Refused(Refusal::EmptySource);
+    begin(s.sound, &[x])?;
+    if s.a.is_empty() {
+        return Err(Refusal::EmptySource);
     }
     channels_why(l0, l1, l2, at)
 }
@@ -57,34 +53,28 @@ fn open_words(a: Sharing, at: u64, c0: &mut [u64], c1: &mut [u64], c2: &mut [u64
     send(z, &mut c0[k..], &mut c1[k..], &mut c2[k..]);
 }
 
-// Order 9, of a register a at number x.
+// Order 9, of a register at number x.
 pub fn open(
-    sound: bool,
+    s: Sources,
     x: u64,
-    a: Register,
     at: u64,
     c0: &mut [u64],
     c1: &mut [u64],
     c2: &mut [u64],
-) -> Change
-    requires { (m : Machine) × Sources m sound x a x a }
-    ensures { (m : Machine) → Sources m sound x a x a → at ≡ m.channels_at → (T : Tapes) → Changes m result (three c0.new c1.new c2.new) (step (Order.Open x) m T (three c0.old c1.old c2.old)) }
+) -> Result<Change, Refusal>
+    requires { (m : Machine) × (s ≡ sources_in m (Order.Open x)) }
+    ensures { (m : Machine) → s ≡ sources_in m (Order.Open x) → at ≡ m.channels_at → (T : Tapes)
+        → Changes m result (at_exit c0 c1 c2) (step (Order.Open x) m T (at_entry_mut c0 c1 c2)) }
 {
-    let v = open_why(
-        sound,
+    open_why(
+        s,
         x,
-        a,
         at,
         c0.len() as u64,
         c1.len() as u64,
         c2.len() as u64,
-    );
-    match v {
-        Answer::Refused(w) => Change::Refused(w),
-        Answer::Done { value: _, gates: _ } => {
-            let value = a.value();
-            open_words(a.shares(), at, c0, c1, c2);
-            Change::Opened { value }
-        }
-    }
+    )?;
+    let value = s.a.value();
+    open_words(s.a.shares(), at, c0, c1, c2);
+    Ok(Change::Opened { value })
 }

@@ -36,7 +36,7 @@ use Rattle.order.proofs.SoundLaw.{few_bits, number_in, seated}
 use Rattle.order.proofs.StepLaw.{because, gated, locally}
 
 module _ (m : Machine) where
-  kind_of_lem : (x : ℕ) {a : Register} → a ≡ register_at m x → kind_of a ≡ kind_at (public_of m) x
+  pub kind_of_lem : (x : ℕ) {a : Register} → a ≡ register_at m x → kind_of a ≡ kind_at (public_of m) x
   kind_of_lem x at = ap kind_of at ∙ sym (kind-at m x)
 
   -- what an order that is not refused has passed

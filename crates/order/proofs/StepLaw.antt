@@ -24,6 +24,8 @@ use Rattle.machine.specs.Answers.{number_of}
 use Rattle.order.specs.Answers.{first_nonzero}
 use Rattle.order.specs.Attempts.{Prepares, attempted, begin_checks, record_refusal, length_verdict, masks_left, ran, tried}
 use Rattle.order.specs.Tasks.{Fit, Seated, circuit_of, kind_left, other_of, source_of}
+use Rattle.order.specs.Changes.{Changes}
+use Rattle.order.specs.declared.changes.Change.{Change}
 use Rattle.order.specs.declared.tasks.Prepared.{Prepared}
 use Rattle.order.specs.declared.tasks.Prepared.TheVariants.{Gates, Local}
 use Rattle.order.specs.declared.tasks.Task.{Task}
@@ -162,3 +164,8 @@ module _ (o : Order) (m : Machine) where
             ∙ gates_are m d x y t D T c left right;
         ready = (seat, fit);
       }
+
+-- a refusal that is passed on changes nothing either
+pub passed_change : (m : Machine) {c : Place → List ℕ} {o : Outcome} (r : Result Change Refusal) (w : Refusal) → IsErrAnd r (λ e. e ≡ w)
+    → Changes m (Err w) c o → Changes m r c o
+passed_change m r w is h = let p = err_from_is_err_and r is in rw (p.1, p.2) h

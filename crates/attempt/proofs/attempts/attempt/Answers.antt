@@ -4,10 +4,6 @@ use Rattle.order.specs.Attempts.{attempted}
 use Rattle.attempt.proofs.AttemptLaw.{ready_gates, ready_local}
 use Rattle.attempt.proofs.attempts.attempt.Goals as goal
 
-pub returns-in-Because : goal.returns-in-Because
-unfolding attempted
-returns-in-Because c = λ m of ready. rw c.in-Because.is (record { fits = tt; is = refl })
-
 pub returns-in-Local : goal.returns-in-Local
 unfolding attempted
 returns-in-Local c = λ m of ready.

@@ -11,6 +11,3 @@ abbrev pub invariant-loop-k : goal.invariant-loop-k
 invariant-loop-k l =
     (l.k ≤ l.n) × (any_bad (replicate l.n 2) (three l.m0 l.m1 l.m2) ≡ leb 2 l.all || any_bad (replicate (l.n - l.k) 2)
     (three (drop l.k l.m0) (drop l.k l.m1) (drop l.k l.m2)))
-
-abbrev pub decreases-loop-k : goal.decreases-loop-k
-decreases-loop-k l = l.n - l.k

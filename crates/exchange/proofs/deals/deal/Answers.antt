@@ -1,38 +1,20 @@
-use mathlib.Core.Path.{◌≡◌, ap, sym, ◌∙◌}
-use lib.ListN.{length}
-use Rattle.machine.specs.Checks.{first_met}
-use Rattle.order.specs.Answers.{refusal_of}
-use Rattle.exchange.specs.Exchanges.{deal_checks}
-use Rattle.exchange.proofs.DealLaw.{deal_done, deal_in, deal_refused}
+use Rattle.order.proofs.CheckLaw.{fine_first, refused-first}
+use Rattle.order.proofs.StepLaw.{passed_change}
+use Rattle.exchange.proofs.DealLaw.{deal_done, deal_refused}
 use Rattle.exchange.proofs.deals.deal.Goals as goal
 
--- no check is met
-fine : (c : goal.In-Done)
-    → let a = c.args in
-    first_met (deal_checks a.sound a.at a.d a.e a.v (length a.dealer.now) c.item-r0.result c.item-r1.result) ≡ 0
-fine c = sym c.deal_why-a.ensures ∙ ap refusal_of c.in-Done.is
-
-pub dealt_register-requires : goal.dealt_register-requires
-dealt_register-requires c =
+pub returns-in_err-begin : goal.returns-in_err-begin
+returns-in_err-begin c = λ m of M channels.
     let a = c.args in
-    let whole = deal_in a.sound a.at a.d a.e a.v (length a.dealer.now) c.item-r0.result c.item-r1.result (fine c) in record {
-      number = whole.0;
-      first = whole.1.0;
-      second = whole.1.1;
-    }
+    passed_change m _ _ c.from_residual.ensures.1 (deal_refused m a.d a.e a.v a.dealer.now of M channels _ (refused-first _ _ tt _ c.in_err-begin.ensures))
 
-pub returns-in-Refused : goal.returns-in-Refused
-returns-in-Refused c = λ m of M channels.
+pub returns-in_err-register : goal.returns-in_err-register
+returns-in_err-register c = λ m of M channels.
     let a = c.args in
-    deal_refused m a.d a.e a.v a.dealer.now of c.item-r0.ensures c.item-r1.ensures M channels
-    c.in-Refused.is c.deal_why-a.ensures
+    passed_change m _ _ c.from_residual-in_err-register.ensures.1
+    (deal_refused m a.d a.e a.v a.dealer.now of M channels _ (fine_first _ _ tt c.in_ok-begin.ensures c.in_err-register.ensures.refusal))
 
-pub returns-in-Done : goal.returns-in-Done
-returns-in-Done c =
-    let fine : let a = c.args in
-    first_met (deal_checks a.sound a.at a.d a.e a.v (length a.dealer.now) c.item-r0.result c.item-r1.result) ≡ 0 = sym
-    c.deal_why-a.ensures ∙ ap refusal_of c.in-Done.is in
-    λ m of M channels.
+pub returns : goal.returns
+returns c = λ m of M channels.
     let a = c.args in
-    deal_done m a.d a.e a.v a.dealer.now of c.item-r0.ensures c.item-r1.ensures M channels
-    fine c.dealt_register.ensures
+    deal_done m a.d a.e a.v a.dealer.now of M channels (fine_first _ _ tt c.in_ok-begin.ensures c.in_ok-register.ensures.refusal) c.in_ok-register.ensures.left
