@@ -48,8 +48,7 @@ entry_same o e f = rw (e, f) refl
 
 -- a tape from item n on: no line left
 none_taken : (N n : ℕ) (X : List ℕ) → length (drop n X) ≡ length (take {A = ℕ} N []) → take N [] ≡ drop n X
-none_taken N n X long =
-    take_all N [] (omega arith) ∙ sym (drop_of_length-le X {i = n} (omega (arith, length-drop n X, length-take {A = ℕ} N [])))
+none_taken N n X long = grind (arith, length-drop, length-take, drop_of_length-le)
 
 -- and one more line, behind which the new items are X's
 one-taken : (N n : ℕ) (X : List ℕ) (t : ℕ) (old new : List ℕ) → length (drop n X) ≡ length (take N (t ∷ old))
