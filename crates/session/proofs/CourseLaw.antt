@@ -2,12 +2,11 @@
 use Prim.Native.Nat.{ℕ, suc, ◌+◌, ◌≤◌, ◌<◌, ◌^◌}
 use mathlib.Core.Bool.{false, true}
 use mathlib.Core.List.{List, [], ◌∷◌, ◌++◌, append_assoc, append-nil, flatten, map}
-use mathlib.Core.Path.{◌≡◌, ap, refl, sym, ◌∙◌}
+use mathlib.Core.Path.{◌≡◌, ap, refl, ◌∙◌}
 use native.Mathlib.Omega.{arith}
-use borrow.Author.Tests.{ltb-false, ltb-true}
 use lib.Dec.{ltb}
-use lib.ListN.{drop, length, length-append, length-take, take, take-append-drop}
-use lib.Seq.{get_or-take, take_all, take-append-le, take-append_seam, take-take}
+use lib.ListN.{length, length-append, length-take, take}
+use lib.Seq.{get_or-take, take_all, take-append-le, take-take}
 use Rattle.gate.specs.Places.{Place, p0, p1, p2, tabled, three}
 use Rattle.gate.proofs.PlaceLaw.{each, tabled-at}
 use Rattle.machine.specs.Registers.{empty_machine}

@@ -4,7 +4,7 @@ use mathlib.Core.List.{List, [], ◌∷◌, ◌++◌, flatten, map}
 use mathlib.Core.Path.{◌≡◌, ap, ap₂, fun_ext, refl, subst, subst₂, sym, ◌∙◌}
 use native.Mathlib.Omega.{arith}
 use lib.ListN.{drop, drop_of_length-le, get_or, length, length-drop, length-take, take}
-use lib.Seq.{drop-cons, take_all}
+use lib.Seq.{drop-cons}
 use Rattle.gate.specs.Places.{Place, next, p0, p1, p2, three}
 use Rattle.gate.proofs.PlaceLaw.{tabled-at, tabled_is}
 use Rattle.view.specs.Views.{around, lacked_by}
