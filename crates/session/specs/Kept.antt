@@ -1,5 +1,5 @@
 -- What the code keeps by value and is lent, as the definitions' state. Used by the code's contracts, and by the theorem `Starts`.
-use Rattle.std.specs.Prelude.{ℕ, ◌≤◌, true, List, ◌≡◌, drop, length, replicate, take}
+use Rattle.std.specs.Prelude.{ℕ, ◌≤◌, true, List, None, Option, Some, ◌≡◌, drop, length, replicate, take}
 use Rattle.std.specs.Borrow.{MutBor}
 use denote.Triple.Both.{Both}
 use Rattle.gate.specs.Lent.{at_entry_mut, at_exit}
