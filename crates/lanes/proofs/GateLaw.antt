@@ -1,148 +1,118 @@
--- Gates of words are gates of bits for each figure: one after others, its words stored at their own place, and n of a kind.
-use Prim.Native.Nat.{ℕ, zero, suc, ◌+◌, ◌-◌, ◌<◌, ◌≤◌}
-use mathlib.Core.List.{List, [], ◌∷◌, ◌++◌, append_assoc, append-nil, map}
-use mathlib.Core.Path.{◌≡◌, ap, ap₂, refl, sym, ◌∙◌}
+-- Gates of words are gates of bits for each figure: one, and one stretch after another.
+use Prim.Native.Nat.{ℕ, zero, suc, ◌+◌, ◌≤◌}
+use mathlib.Core.List.{List, [], ◌∷◌, ◌++◌, map}
+use mathlib.Core.Path.{◌≡◌, ap, fun_ext, refl, sym, ◌∙◌}
 use native.Mathlib.Nat.{add-zero}
 use native.Mathlib.Numerals.{add-one}
-use borrow.Rule.Slice.PartMut.{set_mid_at}
-use lib.ListN.{length, length-append, length-set, set}
+use native.Mathlib.Omega.{arith}
+use lib.ListN.{drop, get_or, length, length-drop, set, take}
+use lib.Seq.{get_or-drop}
 use Rattle.ring.specs.Rings.{bit_of}
-use Rattle.gate.specs.Places.{Place, Sent, three}
+use Rattle.gate.specs.Places.{Place, Sent, p0, p1, p2}
 use Rattle.gate.specs.declared.sharing.Sharing.{Sharing}
+use Rattle.gate.proofs.PlaceLaw.{each}
 use Rattle.circuit.specs.Circuits.{Gate, upto}
 use Rattle.circuit.specs.Decompose.{Digits}
-use Rattle.circuit.specs.Lent.{Long, Ran, Turned}
+use Rattle.circuit.specs.Lent.{Long, Turned}
+use Rattle.circuit.specs.Loans.{Room, Sends, channels, from, items_next, tapes, words_sent}
 use Rattle.circuit.specs.Sharings.{items_at}
-use Rattle.circuit.proofs.LentLaw.{AsLong, long_on, long_same, part_from, put_part, ran-three}
-use Rattle.circuit.proofs.RunLaw.{length-upto}
-use Rattle.circuit.proofs.TurnLaw.{items-next, turn-ran}
+use Rattle.circuit.specs.declared.lent.Lent.{Lent}
+use Rattle.circuit.proofs.LoanLaw.{ran_then}
+use Rattle.circuit.proofs.RunLaw.{drops, length-upto}
+use Rattle.circuit.proofs.TurnLaw.{no_gates, turn-ran}
 use Rattle.decompose.specs.Words.{bits_at}
 use Rattle.lanes.specs.Lanes.{lane, lanes}
-use Rattle.lanes.specs.Stages.{SentAt, Went}
-use Rattle.lanes.proofs.LaneLaw.{get_or-lane, length-lane}
+use Rattle.lanes.specs.Stages.{EachRan}
+use Rattle.lanes.proofs.LaneLaw.{get_or-lane, lane-drop, lane-take, length-lane}
 
 map-set : (f : ℕ → ℕ) (l : List ℕ) (i a : ℕ) → map f (set l i a) ≡ set (map f l) i (f a)
 map-set f [] i a = refl
 map-set f (x ∷ xs) zero a = refl
 map-set f (x ∷ xs) (suc i) a = ap (λ (l : List ℕ). f x ∷ l) (map-set f xs i a)
 
-items-lane : (k i : ℕ) (m₀ m₁ m₂ : List ℕ) → bits_at (items_at i m₀ m₁ m₂) k ≡ items_at i (lane k m₀) (lane k m₁) (lane k m₂)
-items-lane k i m₀ m₁ m₂ = rw (get_or-lane k m₀ i, get_or-lane k m₁ i, get_or-lane k m₂ i)
+-- ---- one stretch after another
 
-long_lane : (k : ℕ) {n : ℕ} {c₀ c₁ c₂ : List ℕ} → Long n c₀ c₁ c₂ → Long n (lane k c₀) (lane k c₁) (lane k c₂)
-long_lane k {c₀ = c₀} {c₁ = c₁} {c₂ = c₂} h = record {
-  zero = rw (length-lane k c₀) h.zero;
-  one = rw (length-lane k c₁) h.one;
-  two = rw (length-lane k c₂) h.two;
+pub lanes-drop : (k n : ℕ) (X : Place → List ℕ) → lanes k (drops n X) ≡ drops n (lanes k X)
+lanes-drop k n X =
+    fun_ext (each (λ i. lanes k (drops n X) i ≡ drops n (lanes k X) i) (lane-drop k n (X p0)) (lane-drop k n (X p1)) (lane-drop k n (X p2)))
+
+pub lanes_kept : (k n : ℕ) (e d : Place → List ℕ) → ((i : Place) → take n (e i) ≡ take n (d i)) → (i : Place) → take n (lanes k e i) ≡ take n (lanes k d i)
+lanes_kept k n e d kept = each (λ i. take n (lanes k e i) ≡ take n (lanes k d i)) (by p0) (by p1) (by p2)
+  where
+    by : (i : Place) → take n (lane k (e i)) ≡ take n (lane k (d i))
+    by i = sym (lane-take k n (e i)) ∙ ap (lane k) (kept i) ∙ lane-take k n (d i)
+
+pub each_then : {G H : List (Gate Digits)} {s r r' : ℕ → Place → Digits} {T c d e : Place → List ℕ} {n : ℕ}
+    → length G ≡ n
+    → EachRan G s r T c d
+    → EachRan H r r' (drops n T) (drops n d) (drops n e)
+    → ((i : Place) → take n (e i) ≡ take n (d i))
+    → EachRan (G ++ H) s r' T c e
+each_then {T = T} {d = d} {e = e} {n = n} counted a b kept = record {
+  on = λ k. ran_then counted (a.on k) (rw (lanes-drop k n T, lanes-drop k n d, lanes-drop k n e) at (b.on k)) (lanes_kept k n e d kept);
 }
 
--- ---- one gate more, its words stored at their own place
+-- no gate of a kind yet, and one more
+pub each_none : (g : ℕ → Gate Digits) {s r : ℕ → Place → Digits} {T c : Place → List ℕ} → ((k : ℕ) → s k ≡ r k) → EachRan (upto g 0) s r T c c
+each_none g same = record { on = λ k. no_gates g (same k) }
 
-put_set : (k : ℕ) (d : List ℕ) (a : ℕ) → 0 < length (part_from k d) → put_part k d (set (part_from k d) 0 a) ≡ set d k a
-put_set k d a h = set_mid_at k (length d - k) 0 d a h ∙ ap (λ (n : ℕ). set d n a) (add-zero k)
+pub each_more : (g : ℕ → Gate Digits) (n : ℕ) {s r r' : ℕ → Place → Digits} {T c d e : Place → List ℕ}
+    → EachRan (upto g n) s r T c d
+    → EachRan (g n ∷ []) r r' (drops n T) (drops n d) (drops n e)
+    → ((i : Place) → take n (e i) ≡ take n (d i))
+    → EachRan (upto g (n + 1)) s r' T c e
+unfolding upto
+each_more g n a b kept = rw (add-one n) (each_then (length-upto g n) a b kept)
 
-gate-at : {S : Type 0} {G : List (Gate S)} (g : Gate S) (p : ℕ) (z : Sharing) {s r r' : Place → S} {t : Sharing} {c : Place → List ℕ}
-    {m₀ m₁ m₂ d₀ d₁ d₂ : List ℕ}
-    → length G ≡ p
-    → t ≡ items_at p m₀ m₁ m₂
-    → Ran G s (three m₀ m₁ m₂) c r (three d₀ d₁ d₂)
-    → Long (p + 1) d₀ d₁ d₂
-    → Turned g r t r' (part_from p d₀) (part_from p d₁) (part_from p d₂)
-    (set (part_from p d₀) 0 z.s0) (set (part_from p d₁) 0 z.s1) (set (part_from p d₂) 0 z.s2)
-    → Ran (G ++ (g ∷ [])) s (three m₀ m₁ m₂) c r' (three (set d₀ p z.s0) (set d₁ p z.s1) (set d₂ p z.s2))
-gate-at g p z {m₀ = m₀} {m₁ = m₁} {m₂ = m₂} {d₀ = d₀} {d₁ = d₁} {d₂ = d₂} counted items ran long turned =
-    let room = long_on 1 p long in
-    rw (← put_set p d₀ z.s0 room.zero, ← put_set p d₁ z.s1 room.one, ← put_set p d₂ z.s2 room.two)
-    (ran-three counted ran (turn-ran (items ∙ sym (items-next p m₀ m₁ m₂)) room turned))
-
--- for each figure, one gate at position p takes states s to r, with items t and words z
-pub record Takes (p : ℕ) (g : Gate Digits) (s r : ℕ → Place → Digits) (t z : Sharing) (d₀ d₁ d₂ : List ℕ) : Type 0 where
-  pub turned : (k : ℕ) → Turned g (s k) (bits_at t k) (r k) (part_from p (lane k d₀)) (part_from p (lane k d₁)) (part_from p (lane k d₂))
-      (set (part_from p (lane k d₀)) 0 (bit_of z.s0 k))
-      (set (part_from p (lane k d₁)) 0 (bit_of z.s1 k))
-      (set (part_from p (lane k d₂)) 0 (bit_of z.s2 k))
-
--- what a figure's words are, a gate sends
-pub sends : (p : ℕ) (d₀ d₁ d₂ : List ℕ) (z : Sharing) (k : ℕ) {w : Sharing} → bits_at z k ≡ w
-    → Sent w (part_from p (lane k d₀)) (part_from p (lane k d₁)) (part_from p (lane k d₂))
-    (set (part_from p (lane k d₀)) 0 (bit_of z.s0 k))
-    (set (part_from p (lane k d₁)) 0 (bit_of z.s1 k))
-    (set (part_from p (lane k d₂)) 0 (bit_of z.s2 k))
-sends p d₀ d₁ d₂ z k e = record {
-  zero = ap (λ (w : Sharing). set (part_from p (lane k d₀)) 0 w.s0) e;
-  one = ap (λ (w : Sharing). set (part_from p (lane k d₁)) 0 w.s1) e;
-  two = ap (λ (w : Sharing). set (part_from p (lane k d₂)) 0 w.s2) e;
-}
-
--- ---- gates of a kind
-
--- what a stage's loop keeps beside its gates: channels c at entry and d now, and the planes that it stores
-pub record Going (limit at n j : ℕ) (m₀ m₁ m₂ c₀ c₁ c₂ d₀ d₁ d₂ q : List ℕ) : Type 0 where
-  pub within : j ≤ n
-  pub few : n < limit
-  pub low : at < 200
-  pub masks : Long (at + n) m₀ m₁ m₂
-  pub room : Long (at + n) d₀ d₁ d₂
-  pub same : AsLong c₀ c₁ c₂ d₀ d₁ d₂
-  pub planes : length q ≡ 192
-
-sent_same : {at : ℕ} {z : Sharing} {c₀ c₁ c₂ d₀ d₁ d₂ : List ℕ} → SentAt at z c₀ c₁ c₂ d₀ d₁ d₂ → AsLong c₀ c₁ c₂ d₀ d₁ d₂
-sent_same {at} {z} {c₀} {c₁} {c₂} sent = record {
-  zero = ap length sent.zero ∙ length-set c₀ at z.s0;
-  one = ap length sent.one ∙ length-set c₁ at z.s1;
-  two = ap length sent.two ∙ length-set c₂ at z.s2;
-}
-
-pub going_on : {limit at n j p : ℕ} {z : Sharing} {m₀ m₁ m₂ c₀ c₁ c₂ d₀ d₁ d₂ e₀ e₁ e₂ q q' : List ℕ}
-    → Going limit at n j m₀ m₁ m₂ c₀ c₁ c₂ d₀ d₁ d₂ q → j + 1 ≤ n → SentAt p z d₀ d₁ d₂ e₀ e₁ e₂ → length q' ≡ length q
-    → Going limit at n (j + 1) m₀ m₁ m₂ c₀ c₁ c₂ e₀ e₁ e₂ q'
-going_on going more sent long =
-    let on = sent_same sent in
+pub nothing_sent : {P : (T c d : Place → List ℕ) → Type 0} (v : Lent)
+    → P (from v.at (tapes v)) (from v.at (channels v)) (from v.at (channels v)) → Sends 0 P v v
+nothing_sent v holds =
     record {
-      within = more;
-      few = going.few;
-      low = going.low;
-      masks = going.masks;
-      room = long_same on going.room;
-      same = record {
-        zero = on.zero ∙ going.same.zero;
-        one = on.one ∙ going.same.one;
-        two = on.two ∙ going.same.two;
-      };
-      planes = long ∙ going.planes;
+      ahead = holds;
+      at = omega arith;
+      same = record { m0 = refl; m1 = refl; m2 = refl; c0 = refl; c1 = refl; c2 = refl; long = λ i. refl; behind = λ i. refl };
     }
 
-pub went_none : (at : ℕ) (g : ℕ → Gate Digits) {s r : ℕ → Place → Digits} {m c : Place → List ℕ} → ((k : ℕ) → s k ≡ r k) → Went at 0 g s r m c c
-unfolding upto
-went_none at g same = record { on = λ k G s₀ first counted ran. rw (append-nil G, ← same k) ran }
+-- what follows from what was sent
+pub sends_of : {n : ℕ} {P Q : (T c d : Place → List ℕ) → Type 0} {v w : Lent} → Sends n P v w
+    → (P (from v.at (tapes v)) (from v.at (channels v)) (from v.at (channels w)) → Q (from v.at (tapes v)) (from v.at (channels v)) (from v.at (channels w)))
+    → Sends n Q v w
+sends_of a on = record { ahead = on a.ahead; at = a.at; same = a.same }
 
--- one gate more, for each figure
-module _ (p : ℕ) (g : Gate Digits) {s r : ℕ → Place → Digits} (m₀ m₁ m₂ : List ℕ) {d₀ d₁ d₂ e₀ e₁ e₂ : List ℕ} {t : Sharing} (z : Sharing)
-    (items : t ≡ items_at p m₀ m₁ m₂) (long : Long (p + 1) d₀ d₁ d₂) (takes : Takes p g s r t z d₀ d₁ d₂)
-    (sent : SentAt p z d₀ d₁ d₂ e₀ e₁ e₂) where
-  gate_more : (k : ℕ) {G : List (Gate Digits)} {s₀ : Place → Digits} {first : Place → List ℕ} → length G ≡ p
-      → Ran G s₀ (lanes k (three m₀ m₁ m₂)) first (s k) (lanes k (three d₀ d₁ d₂))
-      → Ran (G ++ (g ∷ [])) s₀ (lanes k (three m₀ m₁ m₂)) first (r k) (lanes k (three e₀ e₁ e₂))
-  gate_more k counted ran =
-      let bit : ℕ → ℕ = λ w. bit_of w k in
-      rw (sent.zero, sent.one, sent.two, map-set bit d₀ p z.s0, map-set bit d₁ p z.s1, map-set bit d₂ p z.s2)
-      (gate-at g p (bits_at z k) counted (ap (λ (w : Sharing). bits_at w k) items ∙ items-lane k p m₀ m₁ m₂) ran (long_lane k long) (takes.turned k))
+-- ---- one gate
 
-  pub went_one : Went p 1 (λ _. g) s r (three m₀ m₁ m₂) (three d₀ d₁ d₂) (three e₀ e₁ e₂)
-  unfolding upto
-  went_one = record { on = λ k G s₀ first counted ran. gate_more k counted ran }
+-- for each figure, a gate with items t and words z takes states s to r
+pub record Takes (g : Gate Digits) (s r : ℕ → Place → Digits) (t z : Sharing) : Type 0 where
+  pub turned : (k : ℕ) (c₀ c₁ c₂ d₀ d₁ d₂ : List ℕ) → Sent (bits_at z k) c₀ c₁ c₂ d₀ d₁ d₂ → Turned g (s k) (bits_at t k) (r k) c₀ c₁ c₂ d₀ d₁ d₂
 
-pub went_more : {at n : ℕ} (g : ℕ → Gate Digits) {s r r' : ℕ → Place → Digits} {c : Place → List ℕ}
-    {m₀ m₁ m₂ d₀ d₁ d₂ e₀ e₁ e₂ : List ℕ} {t : Sharing} (z : Sharing)
-    → Went at n g s r (three m₀ m₁ m₂) c (three d₀ d₁ d₂)
-    → t ≡ items_at (at + n) m₀ m₁ m₂
-    → Long (at + n + 1) d₀ d₁ d₂
-    → Takes (at + n) (g n) r r' t z d₀ d₁ d₂
-    → SentAt (at + n) z d₀ d₁ d₂ e₀ e₁ e₂
-    → Went at (n + 1) g s r' (three m₀ m₁ m₂) c (three e₀ e₁ e₂)
-unfolding upto
-went_more {at} {n} g {m₀ = m₀} {m₁ = m₁} {m₂ = m₂} z went items long takes sent = record {
-  on = λ k G s₀ first counted ran.
-      let all : length (G ++ upto g n) ≡ at + n = length-append G (upto g n) ∙ ap₂ (λ (a b : ℕ). a + b) counted (length-upto g n) in
-      rw (add-one n, ← append_assoc G (upto g n) (g n ∷ [])) (gate_more (at + n) (g n) m₀ m₁ m₂ z items long takes sent k all (went.on k G s₀ first counted ran));
-}
+-- words z were sent with items t: whatever gate they are of ran
+pub record OneSent (t z : Sharing) (T c d : Place → List ℕ) : Type 0 where
+  pub on : {g : Gate Digits} {s r : ℕ → Place → Digits} → Takes g s r t z → EachRan (g ∷ []) s r T c d
+
+pub one_sent : {t z : Sharing} {v w : Lent} → t ≡ items_next v → Room 1 v → Sends 1 (words_sent z) v w → Sends 1 (OneSent t z) v w
+one_sent {t} {z} {v} {w} items room sent =
+    record { ahead = record { on = λ takes. record { on = λ k. turn-ran (taken k) (long k) (takes.turned k _ _ _ _ _ _ (stored k)) } }; at = sent.at; same = sent.same }
+  where
+    first : (k : ℕ) (l : List ℕ) → get_or (lane k (drop v.at l)) 0 0 ≡ bit_of (get_or l v.at 0) k
+    first k l = get_or-lane k (drop v.at l) 0 ∙ ap (λ (w : ℕ). bit_of w k) (get_or-drop v.at l 0 0 ∙ ap (λ (n : ℕ). get_or l n 0) (add-zero v.at))
+
+    taken : (k : ℕ) → bits_at t k ≡ items_at 0 (lane k (drop v.at v.m0.now)) (lane k (drop v.at v.m1.now)) (lane k (drop v.at v.m2.now))
+    taken k = rw (first k v.m0.now, first k v.m1.now, first k v.m2.now) (ap (λ (w : Sharing). bits_at w k) items)
+
+    one : (k : ℕ) (l : List ℕ) → v.at + 1 ≤ length l → 1 ≤ length (lane k (drop v.at l))
+    one k l h = rw (length-lane k (drop v.at l), length-drop v.at l) (omega arith)
+
+    long : (k : ℕ) → Long 1 (lane k (drop v.at v.c0.now)) (lane k (drop v.at v.c1.now)) (lane k (drop v.at v.c2.now))
+    long k = record { zero = one k v.c0.now room.channels.zero; one = one k v.c1.now room.channels.one; two = one k v.c2.now room.channels.two }
+
+    at_lane : (k : ℕ) (c d : List ℕ) (a : ℕ) → d ≡ set c 0 a → lane k d ≡ set (lane k c) 0 (bit_of a k)
+    at_lane k c d a e = ap (lane k) e ∙ map-set (λ (w : ℕ). bit_of w k) c 0 a
+
+    stored : (k : ℕ) → Sent (bits_at z k)
+        (lane k (drop v.at v.c0.now)) (lane k (drop v.at v.c1.now)) (lane k (drop v.at v.c2.now))
+        (lane k (drop v.at w.c0.now)) (lane k (drop v.at w.c1.now)) (lane k (drop v.at w.c2.now))
+    stored k = record {
+      zero = at_lane k _ _ z.s0 sent.ahead.zero;
+      one = at_lane k _ _ z.s1 sent.ahead.one;
+      two = at_lane k _ _ z.s2 sent.ahead.two;
+    }

@@ -1,7 +1,7 @@
+pub mod PartLaw
 pub mod CellLaw
 pub mod TurnLaw
 pub mod MaskLaw
 pub mod WordLaw
-pub mod PartLaw
 pub mod RowLaw
 pub mod PlaceLaw

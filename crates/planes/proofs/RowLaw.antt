@@ -4,18 +4,17 @@ use mathlib.Core.List.{List}
 use mathlib.Core.Path.{◌≡◌, ap, ap₂, refl, sym, ◌∙◌}
 use native.Mathlib.Nat.{add-mul-div_right, div-eq_of_lt, mod-eq_of_lt, mod-lt, zero-add}
 use native.Mathlib.Omega.{arith}
-use borrow.Author.Count.{below_more, below_none}
+use borrow.Author.Count.{below_more}
 use borrow.Rule.Slice.PartMut.{mid_of, put_mid}
-use lib.Bits.{and_mask, bit_and}
-use lib.ListN.{get_or, length, length-set, set}
+use lib.ListN.{get_or, length, set}
 use lib.Pow.{pow_mono, pow_pos, shl_exact}
 use lib.Seq.{get_or-set_other, get_or-set_same}
 use Rattle.ring.specs.Rings.{bit_of, modulus, modulus_of, width_of}
 use Rattle.ring.specs.declared.rings.Ring.{Ring}
 use Rattle.ring.proofs.RangeLaw.{sized, sized_gt, sized_lt}
 use Rattle.circuit.specs.Bits.{gather}
-use Rattle.circuit.proofs.BitsLaw.{bit_none, gather-bits, gather_same, stored_low}
-use Rattle.planes.specs.Planes.{Copied, NoneFrom, PlanesOf, Split, four_times_at, words_at}
+use Rattle.circuit.proofs.BitsLaw.{bit_lt, bit_none, gather-at, gather-bits, gather-ends, gather_same, stored_low}
+use Rattle.planes.specs.Planes.{AllBelow, Copied, NoneFrom, PlanesOf, Split, four_times_at, words_at}
 use Rattle.planes.specs.Squares.{BlocksTransposed, Transposed, cell}
 use Rattle.planes.proofs.CellLaw.{bit_above, bit_shr}
 use Rattle.planes.proofs.PartLaw.{mid_at, put_after, put_at}
@@ -24,6 +23,11 @@ use Rattle.planes.proofs.TurnLaw.{block_at, halved}
 -- a word is known by its bits
 from_bits : (v : ℕ) {b : ℕ → ℕ} → v < 2 ^ 64 → ((j : ℕ) → j < 64 → b j ≡ bit_of v j) → gather 64 b ≡ v
 from_bits v small same = gather_same 64 same ∙ gather-bits 64 v ∙ mod-eq_of_lt small
+
+-- a word without a bit is 0
+no_bits : (w : ℕ) → w < 2 ^ 64 → ((k : ℕ) → k < 64 → bit_of w k ≡ 0) → w ≡ 0
+unfolding gather
+no_bits w small none = sym (from_bits w small (λ k h. refl)) ∙ gather-ends 0 64 (bit_of w) (λ k from h. none k h)
 
 -- ---- a figure a row
 
@@ -63,9 +67,6 @@ pair_shifted small = shl_exact 32 32 64 small (omega arith)
 pub record Paired (n : ℕ) (v : ℕ → ℕ) (y : List ℕ) : Type 0 where
   pub two : (k : ℕ) → k < n → get_or y k 0 ≡ v k + v (32 + k) * 2 ^ 32
   pub none : NoneFrom 32 y
-
-pub none_paired : (v : ℕ → ℕ) (y : List ℕ) → NoneFrom 32 y → Paired 0 v y
-none_paired v y none = record { two = below_none _; none = none }
 
 pub paired_more : (y : List ℕ) (k w : ℕ) (v : ℕ → ℕ) → k < 32 → length y ≡ 64 → Paired k v y → w ≡ v k + v (32 + k) * 2 ^ 32
     → Paired (k + 1) v (set y k w)
@@ -111,14 +112,25 @@ module _ (a ys : List ℕ) (long : length a ≡ 64) (part : length ys ≡ 32) (t
       ∙ block_at turned 0 u j c hj hc (omega arith) room (omega arith) refl (omega arith) refl
       ∙ ap (λ (w : ℕ). bit_of w (u * 32 + j)) (mid_at 0 32 a c hc ∙ ap (λ (n : ℕ). get_or a n 0) (zero-add c))
 
+  above : {v : ℕ → ℕ} → Paired 32 v a → (j : ℕ) → 32 ≤ j → j < 64 → get_or back j 0 ≡ 0
+  above rows j from h =
+      let place : 32 + (j - 32) ≡ j = omega arith in
+      ap (λ (n : ℕ). get_or back n 0) (sym place) ∙ put_after 0 32 a ys zero-le (omega arith) part (j - 32)
+      ∙ ap (λ (n : ℕ). get_or a n 0) place ∙ rows.none.at j from h
+
+  pub halves_low : AllBelow (2 ^ 64) ys → (k : ℕ) → k < 32 → get_or back k 0 < 2 ^ 64
+  halves_low small k near =
+      rw (ap (λ (n : ℕ). get_or back n 0) (sym (zero-add k)) ∙ put_at 0 32 a ys zero-le k (omega arith)) (small.at k (omega arith))
+
+  pub halves_small : (v : ℕ → ℕ) → Paired 32 v a → AllBelow (2 ^ 64) ys → AllBelow (2 ^ 64) back
+  halves_small v rows small = record {
+    at = λ j inside. halved j 32 inside
+        (halves_low small j)
+        (λ i at far. rw (above rows j (omega arith) inside) (omega arith));
+  }
+
   pub halves_are : (v : ℕ → ℕ) → ((k : ℕ) → k < 64 → v k < 2 ^ 32) → Paired 32 v a → PlanesOf v back
-  halves_are v small rows = paired_planes v a back small rows.two (record { at = λ j from h. above j from h }) half_turned
-    where
-      above : (j : ℕ) → 32 ≤ j → j < 64 → get_or back j 0 ≡ 0
-      above j from h =
-          let place : 32 + (j - 32) ≡ j = omega arith in
-          ap (λ (n : ℕ). get_or back n 0) (sym place) ∙ put_after 0 32 a ys zero-le (omega arith) part (j - 32)
-          ∙ ap (λ (n : ℕ). get_or a n 0) place ∙ rows.none.at j from h
+  halves_are v small rows = paired_planes v a back small rows.two (record { at = above rows }) half_turned
 
   pub halves_back : (z : List ℕ) → NoneFrom 32 a → Split 32 back z → ((k : ℕ) → k < 32 → get_or back k 0 < 2 ^ 64) → PlanesOf (words_at z) a
   halves_back z above split words =
@@ -130,29 +142,13 @@ module _ (a ys : List ℕ) (long : length a ≡ 64) (part : length ys ≡ 32) (t
           halved k 32 inside (λ near. omega (arith, split.low k near))
           (λ c at far. rw at (omega (arith, split.high c far, words c far)))
 
--- ---- rows split one by one
-
-pub none_split : (o z : List ℕ) → Split 0 o z
-none_split o z = record { low = below_none _; high = below_none _ }
-
-pub split_more : (k : ℕ) (o z : List ℕ) → k < 32 → length z ≡ 64 → Split k o z
-    → Split (k + 1) o (set (set z k (bit_and (get_or o k 0) 0xffffffff)) (32 + k) (get_or o k 0 / 2 ^ 32))
-split_more k o z inside long done =
-    let w : ℕ = get_or o k 0 in
-    let first : List ℕ = set z k (bit_and w 0xffffffff) in
-    let after : List ℕ = set first (32 + k) (w / 2 ^ 32) in
-    let same : length first ≡ 64 = length-set z k (bit_and w 0xffffffff) ∙ long in
-    let other : (i : ℕ) → (i ≡ k → ⊥) → (i ≡ 32 + k → ⊥) → get_or after i 0 ≡ get_or z i 0
-    = λ i a b. get_or-set_other first (32 + k) i (w / 2 ^ 32) 0 b ∙ get_or-set_other z k i (bit_and w 0xffffffff) 0 a in
-    record {
-      low = below_more (λ i. get_or after i 0 ≡ get_or o i 0 % 2 ^ 32) k
-          (λ i h. other i (λ e. omega arith) (λ e. omega arith) ∙ done.low i h)
-          (get_or-set_other first (32 + k) k (w / 2 ^ 32) 0 (λ e. omega arith) ∙ get_or-set_same z k (bit_and w 0xffffffff) 0 (omega arith)
-          ∙ and_mask w 32);
-      high = below_more (λ i. get_or after (32 + i) 0 ≡ get_or o i 0 / 2 ^ 32) k
-          (λ i h. other (32 + i) (λ e. omega arith) (λ e. omega arith) ∙ done.high i h)
-          (get_or-set_same first (32 + k) (w / 2 ^ 32) 0 (omega arith));
-    }
+-- figures below 2^e have no planes from e on
+pub planes_none : (e : ℕ) (v : ℕ → ℕ) {y : List ℕ} → PlanesOf v y → ((k : ℕ) → v k < 2 ^ e) → AllBelow (2 ^ 64) y → NoneFrom e y
+planes_none e v {y} all small words = record {
+  at = λ j from h. no_bits (get_or y j 0) (words.at j h)
+      (λ k inside. sym (gather-at 64 (λ i. bit_of (get_or y i 0) k) (λ i. bit_lt (get_or y i 0) k) j h)
+      ∙ ap (λ (w : ℕ). bit_of w j) (all.at k inside) ∙ bit_above e (v k) j (small k) from);
+}
 
 -- ---- four times a figure
 

@@ -1,5 +1,5 @@
 // Bits of 64 words by planes: plane j has bit j of each word, bit k being word k's. Squares of bits transposed, figures to planes
-// and back, and a gate of bits for 64 figures at once.
+// and back, and the majority of bits for 64 figures at once.
 #![tactic(auto)]
 
 mod gates;
@@ -7,5 +7,5 @@ mod places;
 mod rows;
 mod squares;
 
-pub use gates::{gate_words, majority_words, words_xor};
-pub use places::{load, planes_at, store_planes, unload};
+pub use gates::majority_words;
+pub use places::Planes;

@@ -2,53 +2,47 @@
 // the high half: then 32 rows and five levels do.
 ghost use Rattle.std.specs.Prelude.{◌≡◌, ◌+◌, ◌≤◌, length};
 ghost use Rattle.ring.specs.Rings.{modulus_of, width_of};
-ghost use Rattle.planes.specs.Planes.{AllBelow, Copied, NoneFrom, PlanesOf, Split, four_times_at, words_at};
+ghost use Rattle.planes.specs.Planes.{Copied, Figures, NoneFrom, PlanesOf, Split, four_times_at, words_at};
 
 use crate::squares::{transpose, transpose_halves};
 use ring::Ring;
 
 // The planes of x = 4 a modulo p, a figure a row.
-fn wide_planes(r: Ring, a: &[u64], y: &mut [u64])
-    requires words { length a.now ≡ 64 }
-    requires room { length y.old ≡ 64 }
-    requires source { AllBelow (modulus_of r) a.now }
-    ensures { PlanesOf (four_times_at (modulus_of r) a.now) y.new }
+fn wide_planes(r: Ring, a: &[u64], y: &mut [u64; 64])
+    requires figures { Figures (modulus_of r) a.now }
+    ensures is { PlanesOf (four_times_at (modulus_of r) a.now) y.new }
+    ensures none { NoneFrom (width_of r) y.new }
 {
-    let mut k = 0;
-    while k < 64 {
+    for k in 0..64 {
         let w = a[k];
         y[k] = r.four_times(w);
-        k += 1;
     }
     transpose(y);
 }
 
-// The same, two figures a row. Planes from 32 on are 0 already: the ring has no such bit.
-fn narrow_planes(r: Ring, a: &[u64], y: &mut [u64])
+// The same, two figures a row: a row is put together of two, so it is no other size of the loop above. Planes from 32 on are 0
+// already: the ring has no such bit.
+fn narrow_planes(r: Ring, a: &[u64], y: &mut [u64; 64])
     requires width { width_of r ≤ 32 }
-    requires words { length a.now ≡ 64 }
-    requires room { length y.old ≡ 64 }
-    requires source { AllBelow (modulus_of r) a.now }
+    requires figures { Figures (modulus_of r) a.now }
     requires empty { NoneFrom 32 y.old }
-    ensures { PlanesOf (four_times_at (modulus_of r) a.now) y.new }
+    ensures is { PlanesOf (four_times_at (modulus_of r) a.now) y.new }
+    ensures none { NoneFrom (width_of r) y.new }
 {
-    let mut k = 0;
-    while k < 32 {
+    for k in 0..32 {
         let low = r.four_times(a[k]);
         let high = r.four_times(a[32 + k]);
         y[k] = low + (high << 32);
-        k += 1;
     }
     transpose_halves(&mut y[0..32], 1);
 }
 
 // The planes of x = 4 a modulo p, into a part whose words from 32 on are 0.
-pub fn planes_of(r: Ring, a: &[u64], y: &mut [u64])
-    requires words { length a.now ≡ 64 }
-    requires room { length y.old ≡ 64 }
-    requires source { AllBelow (modulus_of r) a.now }
+pub fn planes_of(r: Ring, a: &[u64], y: &mut [u64; 64])
+    requires figures { Figures (modulus_of r) a.now }
     requires empty { NoneFrom 32 y.old }
-    ensures { PlanesOf (four_times_at (modulus_of r) a.now) y.new }
+    ensures is { PlanesOf (four_times_at (modulus_of r) a.now) y.new }
+    ensures none { NoneFrom (width_of r) y.new }
 {
     match r {
         Ring::R13 => narrow_planes(r, a, y),
@@ -57,66 +51,52 @@ pub fn planes_of(r: Ring, a: &[u64], y: &mut [u64])
     }
 }
 
-// Word by word, o to z.
-fn copy(o: &[u64], z: &mut [u64])
-    requires from { length o.now ≡ 64 }
+// Word by word, o to z: `copy_from_slice` was tried, and is a call of memmove, which the tests refuse in the archive.
+fn copy(o: &[u64; 64], z: &mut [u64])
     requires to { length z.old ≡ 64 }
-    ensures is { Copied 64 o.now z.new }
-    ensures long { length z.new ≡ 64 }
+    ensures { Copied 64 o.now z.new }
 {
-    let mut k = 0;
-    while k < 64 {
+    for k in 0..64 {
         z[k] = o[k];
-        k += 1;
     }
 }
 
 // Two words a row of o become one a row of z.
-fn split(o: &[u64], z: &mut [u64])
-    requires from { length o.now ≡ 64 }
+fn split(o: &[u64; 64], z: &mut [u64])
     requires to { length z.old ≡ 64 }
-    ensures is { Split 32 o.now z.new }
-    ensures long { length z.new ≡ 64 }
+    ensures { Split 32 o.now z.new }
 {
-    let mut k = 0;
-    while k < 32 {
+    for k in 0..32 {
         let w = o[k];
         z[k] = w & 0xffff_ffff;
         z[32 + k] = w >> 32;
-        k += 1;
     }
 }
 
 // The words of 64 figures, from their planes, a figure a row. The planes are used up.
-fn wide_rows(o: &mut [u64], z: &mut [u64])
-    requires planes { length o.old ≡ 64 }
+fn wide_rows(o: &mut [u64; 64], z: &mut [u64])
     requires room { length z.old ≡ 64 }
-    ensures is { PlanesOf (words_at z.new) o.old }
-    ensures long { length z.new ≡ 64 }
+    ensures { PlanesOf (words_at z.new) o.old }
 {
     transpose(o);
     copy(o, z);
 }
 
-// The same, two figures a row.
-fn narrow_rows(o: &mut [u64], z: &mut [u64])
-    requires planes { length o.old ≡ 64 }
+// The same, two figures a row: a row is taken apart into two, where the other form copies it.
+fn narrow_rows(o: &mut [u64; 64], z: &mut [u64])
     requires room { length z.old ≡ 64 }
     requires width { NoneFrom 32 o.old }
-    ensures is { PlanesOf (words_at z.new) o.old }
-    ensures long { length z.new ≡ 64 }
+    ensures { PlanesOf (words_at z.new) o.old }
 {
     transpose_halves(&mut o[0..32], 1);
     split(o, z);
 }
 
 // The words of 64 figures of a ring, from their planes, which are used up.
-pub fn rows_of(r: Ring, o: &mut [u64], z: &mut [u64])
-    requires planes { length o.old ≡ 64 }
+pub fn rows_of(r: Ring, o: &mut [u64; 64], z: &mut [u64])
     requires room { length z.old ≡ 64 }
     requires width { NoneFrom (width_of r) o.old }
-    ensures is { PlanesOf (words_at z.new) o.old }
-    ensures long { length z.new ≡ 64 }
+    ensures { PlanesOf (words_at z.new) o.old }
 {
     match r {
         Ring::R13 => narrow_rows(o, z),

@@ -1,22 +1,21 @@
 // Squares of bits, a row a word, transposed by levels: blocks of h rows and columns change places, h being 1, 2, 4 and so on.
-ghost use Rattle.std.specs.Prelude.{◌≡◌, ◌+◌, ◌*◌, ◌<◌, ◌≤◌, length};
+ghost use Rattle.std.specs.Prelude.{◌≡◌, ◌+◌, ◌*◌, ◌<◌, ◌≤◌, ◌^◌, length};
+ghost use Rattle.planes.specs.Planes.{AllBelow};
 ghost use Rattle.planes.specs.Squares.{BlocksTransposed, Exchanged, Levelled, Transposed};
 
-// The pairs of rows of one block, h apart, exchanged in the columns of m.
+// The pairs of rows of one block, h apart, exchanged in the columns of m. By index: rows taken as pairs from two chunks are no
+// plainer, and the proof of that form did not close.
 fn exchange(rows: &mut [u64], at: usize, h: usize, m: u64)
     requires width { h ≤ 32 }
     requires room { at + 2 * h ≤ length rows.old }
-    ensures is { Exchanged h m at h rows.old rows.new }
-    ensures long { length rows.new ≡ length rows.old }
+    ensures { Exchanged h m at h rows.old rows.new }
 {
-    let mut l = 0;
-    while l < h {
+    for l in 0..h {
         let a = rows[at + l];
         let b = rows[at + h + l];
         let t = (a ^ (b << h)) & m;
         rows[at + l] = a ^ t;
         rows[at + h + l] = b ^ (t >> h);
-        l += 1;
     }
 }
 
@@ -24,13 +23,10 @@ fn exchange(rows: &mut [u64], at: usize, h: usize, m: u64)
 fn level(rows: &mut [u64], n: usize, h: usize, m: u64)
     requires width { h ≤ 32 }
     requires room { n * (2 * h) ≤ length rows.old }
-    ensures is { Levelled h m n rows.old rows.new }
-    ensures long { length rows.new ≡ length rows.old }
+    ensures { Levelled h m n rows.old rows.new }
 {
-    let mut q = 0;
-    while q < n {
+    for q in 0..n {
         exchange(rows, q * (2 * h), h, m);
-        q += 1;
     }
 }
 
@@ -39,7 +35,7 @@ pub fn transpose_halves(rows: &mut [u64], n: usize)
     requires count { n ≤ 2 }
     requires room { length rows.old ≡ n * 32 }
     ensures is { BlocksTransposed 32 (n * 32) rows.old rows.new }
-    ensures long { length rows.new ≡ length rows.old }
+    ensures words { AllBelow (2 ^ 64) rows.new }
 {
     level(rows, n * 16, 1, 0xaaaaaaaaaaaaaaaa);
     level(rows, n * 8, 2, 0xcccccccccccccccc);
@@ -52,7 +48,7 @@ pub fn transpose_halves(rows: &mut [u64], n: usize)
 pub fn transpose(rows: &mut [u64])
     requires { length rows.old ≡ 64 }
     ensures is { Transposed rows.old rows.new }
-    ensures long { length rows.new ≡ 64 }
+    ensures words { AllBelow (2 ^ 64) rows.new }
 {
     transpose_halves(rows, 2);
     level(rows, 1, 32, 0xffffffff00000000);

@@ -1,18 +1,13 @@
-use borrow.Author.Rules.{rules}
+-- The channels come back from what was lent as they are there at the end.
+use mathlib.Core.Path.{sym}
 use Rattle.ring.specs.Rings.{width_of}
-use Rattle.lanes.proofs.OrderLaw.{laned, zeros_none}
+use Rattle.lanes.proofs.OrderLaw.{laned}
 use Rattle.lanes.proofs.order.decompose_lanes.Goals as goal
 
-pub load-requires : goal.load-requires
-load-requires c =
-    record { lengths = c.requires.lengths; room = search rules; source = c.requires.source; empty = zeros_none 32 }
-
-pub returns : goal.returns
-returns c =
-    let unloaded = c.unload in
+pub returns-clause-is : goal.returns-clause-is
+returns-clause-is c =
+    let out = c.unload in
     let a = c.args in
-    record {
-      is = laned (width_of a.r) a.l a.a0.now a.a1.now a.a2.now unloaded.new.z0 unloaded.new.z1 unloaded.new.z2
-          c.load.ensures.is c.work.ensures.is unloaded.ensures.is;
-      long = unloaded.ensures.long;
-    }
+    let sent = c.work.ensures.is in
+    rw (c.c0-1.given.1.1 (sym sent.same.c0), c.c1-1.given.1.1 (sym sent.same.c1), c.c2-1.given.1.1 (sym sent.same.c2))
+    (laned (width_of a.r) a.l a.a0.now a.a1.now a.a2.now out.new.z0 out.new.z1 out.new.z2 c.load.ensures.is sent.ahead out.ensures.is)

@@ -1,14 +1,9 @@
-use Prim.Native.Nat.{◌+◌, ◌-◌}
-use Rattle.gate.specs.Places.{three}
+use Prim.Native.Nat.{◌+◌}
+use Rattle.circuit.specs.Circuits.{upto}
 use Rattle.circuit.specs.Decompose.{carry_gate}
-use Rattle.lanes.specs.Stages.{Went, carried, fresh}
-use Rattle.lanes.proofs.GateLaw.{Going}
+use Rattle.circuit.specs.Loans.{Sends}
+use Rattle.lanes.specs.Stages.{EachRan, carried, fresh}
 use Rattle.lanes.proofs.stages.carry_lanes.Given as goal
 
 abbrev pub invariant-loop-j : goal.invariant-loop-j
-invariant-loop-j l =
-    Going 63 l.at l.n l.j l.m0 l.m1 l.m2 l.initial.c0 l.initial.c1 l.initial.c2 l.c0 l.c1 l.c2 l.q × Went l.at l.j carry_gate
-    (fresh l.x) (carried l.x l.q (l.j + 1)) (three l.m0 l.m1 l.m2) (three l.initial.c0 l.initial.c1 l.initial.c2) (three l.c0 l.c1 l.c2)
-
-abbrev pub decreases-loop-j : goal.decreases-loop-j
-decreases-loop-j l = l.n - l.j
+invariant-loop-j l = Sends l.j (EachRan (upto carry_gate l.j) (fresh l.x) (carried l.x l.q (l.j + 1))) l.initial.lent l.lent

@@ -1,20 +1,10 @@
-use Prim.Native.Nat.{ℕ, ◌+◌, ◌-◌, ◌<◌}
-use mathlib.Core.List.{List}
-use mathlib.Core.Path.{◌≡◌}
-use lib.ListN.{length}
-use Rattle.gate.specs.Places.{three}
-use Rattle.planes.specs.Planes.{NoPlanes, planes_at}
-use Rattle.lanes.specs.Stages.{Totals}
-use Rattle.lanes.proofs.GateLaw.{Going}
-use Rattle.lanes.proofs.StageLaw.{Rising}
+use Prim.Native.Nat.{ℕ, ◌<◌}
+use Rattle.circuit.specs.Loans.{Sends}
+use Rattle.planes.specs.Planes.{NoPlanes}
+use Rattle.lanes.proofs.StageLaw.{RisingRan}
 use Rattle.lanes.proofs.stages.raising_lanes.Given as goal
 
 abbrev pub invariant-loop-j : goal.invariant-loop-j
 invariant-loop-j l =
-    Going 61 l.at l.n l.j l.m0 l.m1 l.m2 l.initial.c0 l.initial.c1 l.initial.c2 l.c0 l.c1 l.c2 l.o
-    × ((x q r a₀ : List ℕ) → Totals (l.n + 3) x q r l.s → length a₀ ≡ 192 → l.initial.carry ≡ planes_at 0 a₀
-    → Rising l.at l.j l.n x q r a₀ l.o l.carry (three l.m0 l.m1 l.m2) (three l.initial.c0 l.initial.c1 l.initial.c2) (three l.c0 l.c1 l.c2))
+    Sends l.j (RisingRan l.j l.n l.s l.initial.carry l.o l.carry) l.initial.lent l.lent
     × ((e : ℕ) → l.n < e → NoPlanes e l.initial.o → NoPlanes e l.o)
-
-abbrev pub decreases-loop-j : goal.decreases-loop-j
-decreases-loop-j l = l.n - l.j

@@ -1,10 +1,9 @@
+use Rattle.lanes.proofs.GateLaw.{one_sent, sends_of}
 use Rattle.lanes.proofs.StageLaw.{zeroed}
 use Rattle.lanes.proofs.stages.zero_lanes.Goals as goal
 
 pub returns : goal.returns
 returns c =
-    let a = c.args in
-    zeroed a.at a.s.now c.planes_at-left.result c.planes_at-right.result c.items_at-t.result c.gate_words-z.result
-    c.words_xor.result c.words_xor-2.result a.m0.now a.m1.now a.m2.now c.requires.total c.planes_at-left.ensures
-    c.planes_at-right.ensures c.items_at-t.ensures c.requires.channels c.gate_words-z.ensures c.words_xor.ensures
-    c.words_xor-2.ensures c.send_at.ensures
+    sends_of (one_sent c.items-t.ensures c.requires c.send.ensures)
+    (zeroed c.args.s.now c.at-left.result c.at-right.result c.items-t.result c.bit_words-z.result c.bitxor.result c.bitxor-2.result
+    c.at-left.ensures.whole c.at-left.ensures.is c.at-right.ensures.is c.bit_words-z.ensures.figures c.bitxor.ensures c.bitxor-2.ensures)

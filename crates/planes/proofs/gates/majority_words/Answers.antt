@@ -3,4 +3,4 @@ use Rattle.planes.proofs.gates.majority_words.Goals as goal
 
 pub returns : goal.returns
 returns c =
-    majority-words _ _ _ _ c.words_xor-left.ensures c.words_xor-right.ensures c.gate_words.ensures
+    majority-words _ _ _ _ c.bitxor.ensures c.bitxor-2.ensures c.bit_words.ensures.figures

@@ -4,8 +4,4 @@ use Rattle.planes.proofs.rows.wide_rows.Goals as goal
 
 pub returns : goal.returns
 returns c =
-    let copied = c.copy in
-    record {
-      is = rows_are c.transpose.ensures.is copied.ensures.is (λ k h. omega (arith, c.slice_known-4-1.given k));
-      long = copied.ensures.long;
-    }
+    rows_are c.transpose.ensures.is c.copy.ensures (λ k h. omega (arith, c.type_inv.z k))
