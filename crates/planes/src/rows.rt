@@ -51,7 +51,7 @@ pub fn planes_of(r: Ring, a: &[u64], y: &mut [u64; 64])
     }
 }
 
-// Word by word, o to z: `copy_from_slice` would bring the archive a call that the tests refuse there.
+// Word by word, o to z: `copy_from_slice` was tried, and is a call of memmove, which the tests refuse in the archive.
 fn copy(o: &[u64; 64], z: &mut [u64])
     requires to { length z.old ≡ 64 }
     ensures { Copied 64 o.now z.new }
