@@ -1,5 +1,7 @@
 -- What the code answers is what the definition leaves.
-use Rattle.std.specs.Prelude.{Some, None, Option}
+use Rattle.std.specs.Prelude.{Some, None, Option, Result, Ok, Err}
+use Rattle.std.specs.Result.{IsErrAnd}
+use Rattle.std.proofs.lemmas.Result.{err_from_is_err_and}
 use Prim.Native.Nat.{ℕ, ◌+◌, ◌*◌, ◌-◌, ◌<◌, ◌≤◌}
 use mathlib.Core.Bool.{Bool, cond, false, not, true, ◌&&◌, ◌||◌}
 use mathlib.Core.List.{List, ◌++◌}
@@ -18,13 +20,11 @@ use Rattle.circuit.specs.Lent.{ItemsBelow, Long}
 use Rattle.circuit.specs.Orders.{decomposition}
 use Rattle.value.proofs.Counts.{decompose_count}
 use Rattle.machine.specs.Checks.{Lengths, any_bad, first_met, gate_checks, no_ring}
-use Rattle.machine.specs.declared.answers.Answer.TheVariants.{Done, Refused}
+use Rattle.machine.specs.declared.answers.Done.{Done}
 use Rattle.machine.specs.declared.answers.Refusal.{Refusal}
 use Rattle.machine.specs.declared.answers.Refusal.TheVariants as refusal
 use Rattle.machine.specs.declared.answers.Refusal.TheVariants.{NotSixtyFour}
-use Rattle.order.specs.Answers.{number_of, verdict_of}
-use Rattle.order.specs.declared.answers.Verdict.{Verdict}
-use Rattle.order.specs.declared.answers.Verdict.TheVariants.{Fine}
+use Rattle.machine.specs.Answers.{number_of}
 use Rattle.machine.proofs.KindLaw.{left_true, right_true}
 use Rattle.order.proofs.CheckLaw.{met, passed}
 use Rattle.order.proofs.VerdictLaw.{numbered}
@@ -66,7 +66,7 @@ module _ (e l : ℕ) (a₀ a₁ a₂ z₀ z₁ z₂ c₀ c₁ c₂ d₀ d₁ d�
   result_is i z long same = listed_is 64 (λ k. result C (figure a k) (figure a k) (lanes k T) i) z long same
 
   pub performed_is : Small d₀ → Small d₁ → Small d₂ → Small c₀ → Small c₁ → Small c₂ → length z₀ ≡ 64 → length z₁ ≡ 64 → length z₂ ≡ 64
-      → answered (Done 0 (3 * l + 1)) (three d₀ d₁ d₂) (three z₀ z₁ z₂) ≡ performed e l a T (three c₀ c₁ c₂)
+      → answered (Ok (record { value = 0; gates = 3 * l + 1 })) (three d₀ d₁ d₂) (three z₀ z₁ z₂) ≡ performed e l a T (three c₀ c₁ c₂)
   performed_is s₀ s₁ s₂ t₀ t₁ t₂ n₀ n₁ n₂ =
       let n = gates_of C in
       let gates : 3 * l + 1 ≡ n = sym (decompose_count e l some) in
@@ -89,12 +89,11 @@ module _ (e l : ℕ) (a₀ a₁ a₂ z₀ z₁ z₂ c₀ c₁ c₂ d₀ d₁ d�
 long_of : {n m : ℕ} {t₀ t₁ t₂ : List ℕ} → n ≡ m → ((i : Place) → n ≤ length (three t₀ t₁ t₂ i)) → Long m t₀ t₁ t₂
 long_of same h = record { zero = rw same at (h p0); one = rw same at (h p1); two = rw same at (h p2) }
 
-pub ready : (r : Ring) (l : ℕ) (a₀ a₁ a₂ m₀ m₁ m₂ c₀ c₁ c₂ : List ℕ) {v : Verdict}
-    → verdict_of v ≡ first_met (figure_checks (width_of r) l (three a₀ a₁ a₂) (lengths_of (three m₀ m₁ m₂) (three c₀ c₁ c₂)))
-    → v ≡ Fine
+pub ready : (r : Ring) (l : ℕ) (a₀ a₁ a₂ m₀ m₁ m₂ c₀ c₁ c₂ : List ℕ)
+    → 0 ≡ first_met (figure_checks (width_of r) l (three a₀ a₁ a₂) (lengths_of (three m₀ m₁ m₂) (three c₀ c₁ c₂)))
     → ((1 ≤ l) × (l + 2 ≤ width_of r)) × (Long (3 * l + 1) m₀ m₁ m₂ × (Long (3 * l + 1) c₀ c₁ c₂ × ItemsBelow (modulus_of r) 64 a₀ a₁ a₂))
-ready r l a₀ a₁ a₂ m₀ m₁ m₂ c₀ c₁ c₂ verdict is =
-    let good = fine (width_of r) l (three a₀ a₁ a₂) (three m₀ m₁ m₂) (three c₀ c₁ c₂) (sym verdict ∙ ap verdict_of is) in
+ready r l a₀ a₁ a₂ m₀ m₁ m₂ c₀ c₁ c₂ verdict =
+    let good = fine (width_of r) l (three a₀ a₁ a₂) (three m₀ m₁ m₂) (three c₀ c₁ c₂) (sym verdict) in
     let count = decompose_count (width_of r) l good.least in (
       (good.least, omega (arith, good.most, width_ge r)),
       (long_of count good.masks, (long_of count good.room, items_below (modulus_of r) 64 good.sources)),
@@ -130,15 +129,20 @@ module _ (r : Ring) (l : ℕ) (a : Place → List ℕ) (len : Lengths) {w : ℕ}
 -- ---- refusals
 
 module _ (e l : ℕ) (a T c z : Place → List ℕ) where
-  pub settled_because : (w : Refusal) {n : ℕ} → number_of w ≡ n → answered (Refused w) c z ≡ settled n e l a T c z
+  pub settled_because : (w : Refusal) {n : ℕ} → number_of w ≡ n → answered (Err w) c z ≡ settled n e l a T c z
   settled_because w h = rw (← h, numbered w) refl
 
   pub settled-done : {n : ℕ} → n ≡ 0 → settled n e l a T c z ≡ performed e l a T c
   settled-done h = rw h
 
-  pub refused : (w : Refusal) → number_of w ≡ first_met (checks e l a T c z) → answered (Refused w) c z ≡ batch e l a T c z
+  pub refused : (w : Refusal) → number_of w ≡ first_met (checks e l a T c z) → answered (Err w) c z ≡ batch e l a T c z
   unfolding batch
   refused w h = settled_because w h
+
+-- a refusal that is passed on
+pub passed_answer : {c z : Place → List ℕ} {o : Outcome} (r : Result Done Refusal) (w : Refusal) → IsErrAnd r (λ e. e ≡ w)
+    → answered (Err w) c z ≡ o → answered r c z ≡ o
+passed_answer r w is h = let p = err_from_is_err_and r is in rw (p.1, p.2) h
 
 -- ---- the ring
 
@@ -194,11 +198,11 @@ module _ (e l : ℕ) (a T c z : Place → List ℕ) {b b' : Bool} (figures : b �
   six : {t : Bool} → (b || b') ≡ t → (not_count (lengths a) || not_count (lengths z)) ≡ t
   six h = ap₂ ◌||◌ (sym figures) (sym left) ∙ h
 
-  pub length_met : (b || b') ≡ true → answered (Refused NotSixtyFour) c z ≡ batch e l a T c z
+  pub length_met : (b || b') ≡ true → answered (Err NotSixtyFour) c z ≡ batch e l a T c z
   unfolding checks
   length_met h = refused e l a T c z NotSixtyFour (met 23 _ (six h))
 
-  pub ring_met : (b || b') ≡ false → batch_ring e ≡ None → answered (Refused refusal.NoRing) c z ≡ batch e l a T c z
+  pub ring_met : (b || b') ≡ false → batch_ring e ≡ None → answered (Err refusal.NoRing) c z ≡ batch e l a T c z
   unfolding checks
   ring_met h none = refused e l a T c z refusal.NoRing (passed 23 _ (six h) (met 5 _ (no_ring_lem e none)))
 

@@ -1,4 +1,4 @@
-// A batch: its checks, and only then the gates.
+// A batch: its checks, and only then the gates. The twelve runs stay slices side by side: C lends them so, one by one.
 ghost use Rattle.std.specs.Prelude.{◌≡◌, ◌+◌, ◌*◌, ◌≤◌, length};
 ghost use Rattle.ring.specs.Lent.{Stands};
 ghost use Rattle.ring.specs.Rings.{modulus_of, width_of};
@@ -9,9 +9,9 @@ ghost use Rattle.batch.specs.Batch.{batch, figure_checks, lengths_of, performed,
 ghost use Rattle.batch.specs.Calls.{answered};
 
 use crate::checks::{batch_ring, figures_why, not_count};
+use attempt::Lengths;
 use lanes::decompose_lanes;
-use machine::{Answer, Refusal};
-use order::Verdict;
+use machine::{Answer, Done, Refusal};
 use ring::Ring;
 
 // An accepted batch.
@@ -43,10 +43,10 @@ fn run(
     decompose_lanes(
         r, l as usize, a0, a1, a2, m0, m1, m2, c0, c1, c2, z0, z1, z2,
     );
-    Answer::Done {
+    Ok(Done {
         value: 0,
         gates: 3 * l + 1,
-    }
+    })
 }
 
 // A batch in its ring, the six runs being 64 long.
@@ -72,16 +72,8 @@ fn in_ring(
         ≡ settled (first_met (figure_checks (width_of r) l (at_entry a0 a1 a2) (lengths_of (at_entry m0 m1 m2) (at_entry_mut c0 c1 c2))))
         (width_of r) l (at_entry a0 a1 a2) (at_entry m0 m1 m2) (at_entry_mut c0 c1 c2) (at_entry_mut z0 z1 z2) }
 {
-    let n0 = m0.len() as u64;
-    let n1 = m1.len() as u64;
-    let n2 = m2.len() as u64;
-    let l0 = c0.len() as u64;
-    let l1 = c1.len() as u64;
-    let l2 = c2.len() as u64;
-    match figures_why(r, l, a0, a1, a2, n0, n1, n2, l0, l1, l2) {
-        Verdict::Because(w) => Answer::Refused(w),
-        Verdict::Fine => run(r, l, a0, a1, a2, m0, m1, m2, c0, c1, c2, z0, z1, z2),
-    }
+    figures_why(r, l, a0, a1, a2, Lengths::of(m0, m1, m2, c0, c1, c2))?;
+    run(r, l, a0, a1, a2, m0, m1, m2, c0, c1, c2, z0, z1, z2)
 }
 
 // Decomposes 64 figures of a ring into l bits each, with one word a gate, bit k serving figure k; or refuses, and changes nothing.
@@ -106,10 +98,8 @@ pub fn decompose_batch(
     ensures lent { Stands a0 × Stands a1 × Stands a2 × Stands m0 × Stands m1 × Stands m2 }
 {
     if not_count(a0.len(), a1.len(), a2.len()) | not_count(z0.len(), z1.len(), z2.len()) {
-        return Answer::Refused(Refusal::NotSixtyFour);
+        return Err(Refusal::NotSixtyFour);
     }
-    match batch_ring(e) {
-        None => Answer::Refused(Refusal::NoRing),
-        Some(r) => in_ring(r, l, a0, a1, a2, m0, m1, m2, c0, c1, c2, z0, z1, z2),
-    }
+    let r = batch_ring(e).ok_or(Refusal::NoRing)?;
+    in_ring(r, l, a0, a1, a2, m0, m1, m2, c0, c1, c2, z0, z1, z2)
 }

@@ -1,16 +1,14 @@
 -- Arguments: numbers read as one field, and names.
 use Rattle.std.specs.Prelude.{None, Some, Option}
 use Rattle.std.specs.Option.{option_and_then}
-use Prim.Native.Nat.{ℕ, ◌+◌, ◌-◌, ◌*◌, ◌≤◌, ◌<◌, ◌^◌}
+use Prim.Native.Nat.{ℕ, ◌+◌, ◌-◌, ◌*◌, ◌≤◌, ◌^◌}
 use mathlib.Core.Path.{◌≡◌, refl, ap, sym, ◌∙◌}
 use mathlib.Core.Bool.{Bool, true, false, ◌&&◌}
 use mathlib.Core.List.{List, [], ◌∷◌, ◌++◌, append_assoc, append-nil}
-use native.Mathlib.Numerals.{add-one}
 use native.Mathlib.Omega.{arith}
 use borrow.Author.Tests.{eqb-true, eqb-false, ltb-true, ne_eqb}
 use lib.Dec.{eqb, ltb}
-use lib.ListN.{drop, drop_of_length-le, get_or, length}
-use lib.Seq.{drop-cons}
+use lib.ListN.{drop, drop_of_length-le, length}
 use Rattle.line.specs.Lines.{fits, is_digit, number_from, number_of}
 use Rattle.line.specs.Readings.{comma_on, digit_on, fields_on, read, read_on}
 use Rattle.line.specs.declared.readings.Fields.{Fields}
@@ -113,12 +111,6 @@ pub number_read : (bs : List ℕ) → number_in (read bs) ≡ number_of bs
 unfolding number_from
 number_read bs = says bs false [] fit_none
 
--- one byte more is read
-pub read_more : (text : List ℕ) (r : Reading) (i : ℕ) {t q : Reading} → read_on r (drop i text) ≡ t → i < length text
-    → q ≡ read_on r (get_or text i 0 ∷ []) → read_on q (drop (i + 1) text) ≡ t
-read_more text r i h more is = rw (is, add-one) (ap (read_on r) (sym (drop-cons text i 0 more)) ∙ h)
-
--- names
 -- no byte is left
 pub read_over : (text : List ℕ) (r : Reading) (i : ℕ) {t : Reading} → read_on r (drop i text) ≡ t → length text ≤ i → r ≡ t
 read_over text r i h over = rw (drop_of_length-le text over) at h

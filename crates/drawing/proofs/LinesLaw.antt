@@ -8,20 +8,8 @@ use native.Mathlib.Omega.{arith}
 use lib.ListN.{length}
 use Rattle.line.specs.Printed.{Wrote}
 use Rattle.line.proofs.PrintLaw.{also}
-use Rattle.drawing.specs.Lines.{line_of, lines_of, per_line}
+use Rattle.drawing.specs.Lines.{line_of, lines_of}
 use Rattle.drawing.specs.declared.kinds.Kind.{Kind}
-use Rattle.drawing.specs.declared.kinds.Kind.TheVariants.{Dealer, Masks}
-
--- by the kind of line
-pub masks_fit : {kind : Kind} (k n : ℕ) → kind ≡ Masks → per_line kind * (k + 1) ≤ n → 3 * (k + 1) ≤ n
-masks_fit k n is h = rw is at h
-
-pub dealer_fit : {kind : Kind} (k n : ℕ) → kind ≡ Dealer → per_line kind * (k + 1) ≤ n → k < n
-dealer_fit k n is h = let one : 1 * (k + 1) ≤ n = rw is at h in omega arith
-
-pub line_as : {kind named : Kind} (k : ℕ) (items : List ℕ) {at next : ℕ} {entry exit : List ℕ} → kind ≡ named
-    → Wrote at (line_of named k items) entry exit next → Wrote at (line_of kind k items) entry exit next
-line_as k items is w = rw is w
 
 -- items for one line more
 pub more_items : (w k n : ℕ) {m : ℕ} → k < n → w * n ≤ m → w * (k + 1) ≤ m
@@ -32,7 +20,6 @@ more_items w k n more h =
 
 -- k lines are written, up to `at`
 pub record Lined (kind : Kind) (items start : List ℕ) (n : ℕ) (out : List ℕ) (at k : ℕ) : Type 0 where
-  pub few : k ≤ n
   pub long : length out ≡ length start
   pub short : at ≤ 84 * k
   pub wrote : Wrote 0 (lines_of kind k items) start out at
@@ -44,7 +31,6 @@ pub one_line : {kind : Kind} {items start out exit : List ℕ} {n at k next : �
 unfolding lines_of
 one_line l more room long wrote short =
     record {
-      few = omega arith;
       long = omega (arith, l.long);
       short = omega (arith, l.short);
       wrote = rw add-one (also l.wrote wrote (omega (arith, l.short)));

@@ -4,7 +4,7 @@ ghost use Rattle.line.specs.Printed.{Wrote};
 ghost use Rattle.drawing.specs.Lines.{line_of, lines_of, per_line};
 
 use crate::kinds::Kind;
-use line::put_field;
+use line::{DEALER, MASKS, put_field};
 
 // How many items n lines take.
 pub fn items_for(kind: Kind, n: usize) -> usize
@@ -26,7 +26,7 @@ fn put_masks(items: &[u64], k: usize, out: &mut [u8], at: usize) -> usize
     ensures writes { Wrote at (line_of Kind.Masks k items.now) out.old out.new result }
     ensures short { result ≤ at + 84 }
 {
-    let a = put_field(out, at, 0, b',');
+    let a = put_field(out, at, MASKS, b',');
     let b = put_field(out, a, items[3 * k], b',');
     let c = put_field(out, b, items[3 * k + 1], b',');
     put_field(out, c, items[3 * k + 2], b'\n')
@@ -39,7 +39,7 @@ fn put_dealer(items: &[u64], k: usize, out: &mut [u8], at: usize) -> usize
     ensures writes { Wrote at (line_of Kind.Dealer k items.now) out.old out.new result }
     ensures short { result ≤ at + 84 }
 {
-    let a = put_field(out, at, 10, b',');
+    let a = put_field(out, at, DEALER, b',');
     put_field(out, a, items[k], b'\n')
 }
 
@@ -57,6 +57,7 @@ fn put_line(kind: Kind, items: &[u64], k: usize, out: &mut [u8], at: usize) -> u
 }
 
 // Writes n lines from the start on, and answers the place after them.
+#[tactic(auto, using(crate::proofs::LinesLaw::more_items), unfolding(crate::specs::Lines::lines_of))]
 pub fn put_lines(kind: Kind, items: &[u64], n: usize, out: &mut [u8]) -> usize
     requires items { per_line kind * n ≤ length items.now }
     requires room { 84 * n ≤ length out.old }

@@ -1,4 +1,5 @@
 -- Words laid out as a record: its registers and positions in them, and a change of them.
+use Rattle.std.specs.Prelude.{Some, None, Option}
 use Prim.Native.Nat.{ℕ, suc, ◌+◌, ◌*◌, ◌-◌, ◌<◌, ◌≤◌, ◌^◌}
 use mathlib.Core.List.{List, [], ◌∷◌, ◌++◌, append_assoc}
 use mathlib.Core.Path.{◌≡◌, sym, ap, ◌∙◌}
@@ -7,26 +8,23 @@ use borrow.Rule.Slice.PartMut.{mid_of, put_mid}
 use lib.ListN.{get_or-eq_default, drop, get_or, length, length-set, set, take}
 use lib.Seq.{drop_at, drop-cons, get_or-drop, take_at}
 use Rattle.circuit.proofs.LentLaw.{part_is}
-use Rattle.machine.specs.Registers.{register_at, slot, with_register}
+use Rattle.machine.specs.Registers.{register_at, with_register}
 use Rattle.machine.specs.Step.{moved}
 use Rattle.machine.specs.declared.registers.Machine.{Machine}
 use Rattle.machine.specs.declared.registers.Register.{Register}
 use Rattle.machine.specs.declared.registers.Register.TheVariants.{Empty}
-use Rattle.machine.specs.declared.registers.Slot.{Slot}
-use Rattle.layout.specs.Layout.{Says, found, machine_of, machine_words, register_of, register_words, slots_words}
-use Rattle.layout.specs.declared.registers.RegisterRead.{RegisterRead}
-use Rattle.layout.specs.declared.registers.RegisterRead.TheVariants.{Found, NoRegister}
+use Rattle.layout.specs.Layout.{Says, machine_of, machine_words, register_of, register_words, slots_words}
 use Rattle.layout.proofs.Theorems.{machine_length, machine_written, register_back}
 use Rattle.layout.proofs.WriteLaw.{from_register, one-changed, positions-changed, slots_length}
 
-pub said : (ws : List ℕ) (m : Machine) → machine_of ws ≡ found m → Says ws m
+pub said : (ws : List ℕ) (m : Machine) → machine_of ws ≡ Some m → Says ws m
 said ws m e = let w = machine_written ws m e in record { words = sym w.0; registers = w.1 }
 
 -- one register is read
-pub read_is : {q : RegisterRead} {r s : Register} → q ≡ Found r → q ≡ Found s → r ≡ s
+pub read_is : {q : Option Register} {r s : Register} → q ≡ Some r → q ≡ Some s → r ≡ s
 read_is e h = cc
 
-pub read_there : {q : RegisterRead} {r s : Register} → q ≡ NoRegister → q ≡ Found s → r ≡ s
+pub read_there : {q : Option Register} {r s : Register} → q ≡ None → q ≡ Some s → r ≡ s
 read_there e h = cc
 
 module _ {ws : List ℕ} {m : Machine} (says : Says ws m) where
@@ -36,17 +34,17 @@ module _ {ws : List ℕ} {m : Machine} (says : Says ws m) where
   eighty : length (slots_words m.slots) ≡ 80
   eighty = let n = says.registers in omega (arith, slots_length m.slots)
 
-  pub register_said : (k : ℕ) → k ≤ 15 → register_of (mid_of (5 * k) (length ws - 5 * k) ws) ≡ Found (register_at m k)
+  pub register_said : (k : ℕ) → k ≤ 15 → register_of (mid_of (5 * k) (length ws - 5 * k) ws) ≡ Some (register_at m k)
   unfolding register_at machine_words slots_words
   register_said k h =
       let t = m.masks_at ∷ m.channels_at ∷ m.dealer_at ∷ [] in
       let n = says.registers in
       let rest = slots_words (drop (suc k) m.slots) in
-      let r = (get_or m.slots k (slot Empty)).reg in
+      let r = get_or m.slots k Empty in
       ap register_of
       (part_is (5 * k) ws ∙ ap (drop (5 * k)) says.words
       ∙ from_register m.slots k t (omega arith)
-      ∙ ap (λ l. slots_words l ++ t) (drop-cons m.slots k (slot Empty) (omega arith))
+      ∙ ap (λ l. slots_words l ++ t) (drop-cons m.slots k Empty (omega arith))
       ∙ append_assoc (register_words r) rest t)
       ∙ register_back r (rest ++ t)
 
@@ -55,7 +53,7 @@ module _ {ws : List ℕ} {m : Machine} (says : Says ws m) where
   past_said k h =
       let n = says.registers in
       let past : length m.slots ≤ k = omega arith in
-      sym (ap (λ (s : Slot). s.reg) (get_or-eq_default m.slots (slot Empty) past))
+      sym ((get_or-eq_default m.slots Empty past))
 
   ending : drop 80 ws ≡ m.masks_at ∷ m.channels_at ∷ m.dealer_at ∷ []
   unfolding machine_words
@@ -98,5 +96,5 @@ module _ {ws : List ℕ} {m : Machine} (says : Says ws m) where
       let n = says.registers in
       record {
         words = one-changed m.slots d r _ ws ys (omega arith) says.words e;
-        registers = length-set m.slots d (slot r) ∙ n;
+        registers = length-set m.slots d r ∙ n;
       }

@@ -1,6 +1,6 @@
+-- The facts of specs/Theorems.antt.
 use Rattle.std.specs.Prelude.{Some, None, Option}
 use Rattle.ring.specs.declared.rings.Ring.{Ring}
--- The facts of specs/Theorems.antt.
 use Prim.Native.Nat.{ℕ, zero, suc, ◌+◌, ◌*◌, ◌≤◌}
 use mathlib.Core.Bool.{Bool, cond, false, true, ◌&&◌}
 use mathlib.Core.List.{List, [], ◌∷◌, ◌++◌, append_assoc}
@@ -18,14 +18,11 @@ use Rattle.machine.specs.declared.orders.Order.TheVariants.{Add, Compose, Conver
 use Rattle.machine.specs.declared.registers.Machine.{Machine}
 use Rattle.machine.specs.declared.registers.Register.{Register}
 use Rattle.machine.specs.declared.registers.Register.TheVariants.{Bits, Empty, Number}
-use Rattle.machine.specs.declared.registers.Slot.{Slot}
 use Rattle.machine.proofs.KindLaw.{left_true, right_true}
 use Rattle.machine.specs.Orders.{of_kind}
-use Rattle.machine.specs.Registers.{empty_machine, slot}
-use Rattle.layout.specs.Layout.{MachineFound, before, empty_from, found, machine_from, machine_of, machine_words, none, number_from, open_from, order_from, order_of, order_words, register_from, register_of, register_words, slots_words}
+use Rattle.machine.specs.Registers.{empty_machine}
+use Rattle.layout.specs.Layout.{before, empty_from, machine_from, machine_of, machine_words, number_from, open_from, order_from, order_of, order_words, register_from, register_of, register_words, slots_words}
 use Rattle.layout.specs.Theorems.{EmptyIsZeros, MachineBack, MachineLength, MachineWritten, OrderBack, OrderWritten}
-use Rattle.layout.specs.declared.registers.RegisterRead.{RegisterRead}
-use Rattle.layout.specs.declared.registers.RegisterRead.TheVariants.{Found, NoRegister}
 use Rattle.layout.proofs.WriteLaw.{slots_length}
 
 pub order-back : OrderBack
@@ -40,7 +37,7 @@ order-back (Shift d x s) = refl
 order-back (Compose d x f) = refl
 order-back (Open x) = refl
 
-pub register_back : (r : Register) (ws : List ℕ) → register_of (register_words r ++ ws) ≡ Found r
+pub register_back : (r : Register) (ws : List ℕ) → register_of (register_words r ++ ws) ≡ Some r
 unfolding register_of register_from ring_of
 register_back Empty ws = refl
 register_back (Number R13 x) ws = refl
@@ -53,9 +50,9 @@ rest_is Empty ws = refl
 rest_is (Number r x) ws = refl
 rest_is (Bits l x) ws = refl
 
-slots_back : (ss : List Slot) (a b c : ℕ)
+slots_back : (ss : List Register) (a b c : ℕ)
     → machine_from (length ss) (slots_words ss ++ (a ∷ b ∷ c ∷ []))
-    ≡ found (record { slots = ss; masks_at = a; channels_at = b; dealer_at = c })
+    ≡ Some (record { slots = ss; masks_at = a; channels_at = b; dealer_at = c })
 unfolding machine_from slots_words
 slots_back [] a b c = refl
 slots_back (s ∷ ss) a b c = rw (append_assoc, register_back, rest_is, slots_back ss a b c)
@@ -80,7 +77,7 @@ chosen true met unmet is = met refl is
 chosen false met unmet is = unmet refl is
 
 module _ (n : ℕ) (x : Sharing) (r : Register) where
-  empty_written : empty_from n x ≡ Found r → register_words r ≡ 0 ∷ n ∷ x.s0 ∷ x.s1 ∷ x.s2 ∷ []
+  empty_written : empty_from n x ≡ Some r → register_words r ≡ 0 ∷ n ∷ x.s0 ∷ x.s1 ∷ x.s2 ∷ []
   empty_written =
       chosen (eqb n 0 && (eqb x.s0 0 && (eqb x.s1 0 && eqb x.s2 0)))
       (λ e is.
@@ -94,14 +91,14 @@ module _ (n : ℕ) (x : Sharing) (r : Register) where
       sym (ap register_words same) ∙ rw (z, z₀, z₁, z₂))
       (λ _ is. cc)
 
-  number_written : (w : Option Ring) → ring_of n ≡ w → number_from w x ≡ Found r
+  number_written : (w : Option Ring) → ring_of n ≡ w → number_from w x ≡ Some r
       → register_words r ≡ 1 ∷ n ∷ x.s0 ∷ x.s1 ∷ x.s2 ∷ []
   number_written (Some q) e is =
       let same : Number q x ≡ r = cc in
       sym (ap register_words same) ∙ ap (λ (k : ℕ). 1 ∷ k ∷ x.s0 ∷ x.s1 ∷ x.s2 ∷ []) (sym (width_named n e))
   number_written None e is = cc
 
-  register_written : (t : ℕ) → register_from t n x ≡ Found r → register_words r ≡ t ∷ n ∷ x.s0 ∷ x.s1 ∷ x.s2 ∷ []
+  register_written : (t : ℕ) → register_from t n x ≡ Some r → register_words r ≡ t ∷ n ∷ x.s0 ∷ x.s1 ∷ x.s2 ∷ []
   unfolding register_from
   register_written t =
       chosen (eqb t 0) (λ e is. rw (eqb-true t 0 e) (empty_written is))
@@ -109,7 +106,7 @@ module _ (n : ℕ) (x : Sharing) (r : Register) where
       (λ _. chosen (eqb t 2) (λ e is. let same : Bits n x ≡ r = cc in rw (eqb-true t 2 e) (sym (ap register_words same)))
       (λ _ is. cc)))
 
-front_written : (ws : List ℕ) (r : Register) → 5 ≤ length ws → register_of ws ≡ Found r → register_words r ++ drop 5 ws ≡ ws
+front_written : (ws : List ℕ) (r : Register) → 5 ≤ length ws → register_of ws ≡ Some r → register_words r ++ drop 5 ws ≡ ws
 unfolding register_of
 front_written [] r h is = absurd (omega arith)
 front_written (t ∷ []) r h is = absurd (omega arith)
@@ -119,7 +116,7 @@ front_written (t ∷ n ∷ a ∷ b ∷ []) r h is = absurd (omega arith)
 front_written (t ∷ n ∷ a ∷ b ∷ c ∷ ws) r h is =
     ap (λ (l : List ℕ). l ++ ws) (register_written n (record { s0 = a; s1 = b; s2 = c }) r t is)
 
-from_written : (n : ℕ) (ws : List ℕ) (m : Machine) → length ws ≡ 5 * n + 3 → machine_from n ws ≡ found m
+from_written : (n : ℕ) (ws : List ℕ) (m : Machine) → length ws ≡ 5 * n + 3 → machine_from n ws ≡ Some m
     → (machine_words m ≡ ws) × (length m.slots ≡ n)
 unfolding machine_from machine_words slots_words
 from_written zero [] m h is = absurd (omega arith)
@@ -132,17 +129,17 @@ from_written zero (a ∷ b ∷ c ∷ d ∷ ws) m h is = absurd (omega arith)
 from_written (suc n) ws m h is =
     go (register_of ws) (machine_from n (drop 5 ws)) refl (λ k. from_written n (drop 5 ws) k (rw length-drop (omega arith))) is
   where
-    go : (q : RegisterRead) (f : MachineFound) → register_of ws ≡ q
-        → ((k : Machine) → f ≡ found k → (machine_words k ≡ drop 5 ws) × (length k.slots ≡ n))
-        → before q f ≡ found m → (machine_words m ≡ ws) × (length m.slots ≡ suc n)
-    go (Found r) (found k) er below is =
+    go : (q : Option Register) (f : Option Machine) → register_of ws ≡ q
+        → ((k : Machine) → f ≡ Some k → (machine_words k ≡ drop 5 ws) × (length k.slots ≡ n))
+        → before q f ≡ Some m → (machine_words m ≡ ws) × (length m.slots ≡ suc n)
+    go (Some r) (Some k) er below is =
         let rest = below k refl in
-        let same : record { slots = slot r ∷ k.slots; masks_at = k.masks_at; channels_at = k.channels_at; dealer_at = k.dealer_at } ≡ m = cc in (
+        let same : record { slots = r ∷ k.slots; masks_at = k.masks_at; channels_at = k.channels_at; dealer_at = k.dealer_at } ≡ m = cc in (
           ap machine_words (sym same) ∙ rw append_assoc (ap (λ (l : List ℕ). register_words r ++ l) rest.0 ∙ front_written ws r (omega arith) er),
           ap (λ (j : Machine). length j.slots) (sym same) ∙ ap suc rest.1,
         )
-    go (Found r) none er below is = let wrong : ◌≡◌ {A = ℕ} 0 1 = cc in absurd (omega arith)
-    go NoRegister f er below is = let wrong : ◌≡◌ {A = ℕ} 0 1 = cc in absurd (omega arith)
+    go (Some r) None er below is = let wrong : ◌≡◌ {A = ℕ} 0 1 = cc in absurd (omega arith)
+    go None f er below is = let wrong : ◌≡◌ {A = ℕ} 0 1 = cc in absurd (omega arith)
 
 pub machine_written : MachineWritten
 unfolding machine_of

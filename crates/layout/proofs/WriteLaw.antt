@@ -8,10 +8,8 @@ use borrow.Rule.Slice.PartMut.{mid_of, put_mid}
 use lib.ListN.{drop, drop_of_length-le, length, length-append, length-drop, set, take, take-append-drop}
 use lib.Seq.{drop_at, drop-drop, length-take-le, set_split, sets-eq, take_at}
 use Rattle.circuit.proofs.LentLaw.{part_is}
-use Rattle.machine.specs.Registers.{slot}
 use Rattle.machine.specs.declared.registers.Register.{Register}
 use Rattle.machine.specs.declared.registers.Register.TheVariants.{Bits, Empty, Number}
-use Rattle.machine.specs.declared.registers.Slot.{Slot}
 use Rattle.layout.specs.Layout.{register_words, slots_words}
 
 five : (r : Register) → length (register_words r) ≡ 5
@@ -19,12 +17,12 @@ five Empty = refl
 five (Number r x) = refl
 five (Bits l x) = refl
 
-pub slots_length : (ss : List Slot) → length (slots_words ss) ≡ 5 * length ss
+pub slots_length : (ss : List Register) → length (slots_words ss) ≡ 5 * length ss
 unfolding slots_words
 slots_length [] = refl
-slots_length (s ∷ ss) = rw length-append (omega (arith, five s.reg, slots_length ss))
+slots_length (s ∷ ss) = rw length-append (omega (arith, five s, slots_length ss))
 
-slots_append : (ss ts : List Slot) → slots_words (ss ++ ts) ≡ slots_words ss ++ slots_words ts
+slots_append : (ss ts : List Register) → slots_words (ss ++ ts) ≡ slots_words ss ++ slots_words ts
 unfolding slots_words
 slots_append [] ts = refl
 slots_append (s ∷ ss) ts = rw (slots_append ss ts, append_assoc)
@@ -46,13 +44,13 @@ lent_on k u p q d ys hp hd hy =
     ∙ sym (append_assoc p q (drop (k + length q) u))
 
 -- the words from register i on
-module _ (ss : List Slot) (i : ℕ) (t : List ℕ) (h : i ≤ length ss) where
+module _ (ss : List Register) (i : ℕ) (t : List ℕ) (h : i ≤ length ss) where
   count : length (slots_words (take i ss)) ≡ 5 * i
   count = slots_length (take i ss) ∙ ap (λ (n : ℕ). 5 * n) (length-take-le i ss h)
 
   split : slots_words ss ++ t ≡ slots_words (take i ss) ++ (slots_words (drop i ss) ++ t)
   split =
-      ap (λ (l : List Slot). slots_words l ++ t) (sym (take-append-drop i ss))
+      ap (λ (l : List Register). slots_words l ++ t) (sym (take-append-drop i ss))
       ∙ ap (λ (l : List ℕ). l ++ t) (slots_append (take i ss) (drop i ss))
       ∙ append_assoc (slots_words (take i ss)) (slots_words (drop i ss)) t
 
@@ -61,9 +59,9 @@ module _ (ss : List Slot) (i : ℕ) (t : List ℕ) (h : i ≤ length ss) where
       ap (drop (5 * i)) split ∙ drop_at (slots_words (take i ss)) (slots_words (drop i ss) ++ t) (5 * i) count
 
 -- one register changed
-pub one-changed : (ss : List Slot) (d : ℕ) (r : Register) (t ws ys : List ℕ) → d < length ss → ws ≡ slots_words ss ++ t
+pub one-changed : (ss : List Register) (d : ℕ) (r : Register) (t ws ys : List ℕ) → d < length ss → ws ≡ slots_words ss ++ t
     → ys ≡ register_words r ++ drop 5 (mid_of (5 * d) (length ws - 5 * d) ws)
-    → put_mid (5 * d) (length ws - 5 * d) ws ys ≡ slots_words (set ss d (slot r)) ++ t
+    → put_mid (5 * d) (length ws - 5 * d) ws ys ≡ slots_words (set ss d r) ++ t
 unfolding slots_words
 one-changed ss d r t ws ys h e hy =
     let p = slots_words (take d ss) in
@@ -74,8 +72,8 @@ one-changed ss d r t ws ys h e hy =
     = e ∙ split ss d t (omega arith) ∙ ap (λ (l : List ℕ). p ++ l) (sym (ap (drop (5 * d)) e ∙ from_register ss d t (omega arith))) in
     let after : drop (5 * d + length q) ws ≡ S ++ t
     = ap (λ (n : ℕ). drop n ws) place ∙ ap (drop (5 * suc d)) e ∙ from_register ss (suc d) t (omega arith) in
-    let new : slots_words (set ss d (slot r)) ≡ p ++ (q ++ S)
-    = ap slots_words (set_split ss d (slot r) h) ∙ slots_append (take d ss) (slot r ∷ drop (suc d) ss) in
+    let new : slots_words (set ss d r) ≡ p ++ (q ++ S)
+    = ap slots_words (set_split ss d r h) ∙ slots_append (take d ss) (r ∷ drop (suc d) ss) in
     lent_on (5 * d) ws p q ws ys (count ss d t (omega arith)) before
     (hy ∙ ap (λ (n : ℕ). q ++ drop n (mid_of (5 * d) (length ws - 5 * d) ws)) (sym (five r)))
     ∙ ap (λ (l : List ℕ). (p ++ q) ++ l) after
@@ -83,7 +81,7 @@ one-changed ss d r t ws ys h e hy =
     ∙ ap (λ (l : List ℕ). l ++ t) (append_assoc p q S ∙ sym new)
 
 -- three positions changed
-pub positions-changed : (ss : List Slot) (ws : List ℕ) (a b c : ℕ) → length ss ≡ 16 → length ws ≡ 83 → take 80 ws ≡ slots_words ss
+pub positions-changed : (ss : List Register) (ws : List ℕ) (a b c : ℕ) → length ss ≡ 16 → length ws ≡ 83 → take 80 ws ≡ slots_words ss
     → set (set (set ws 80 a) 81 b) 82 c ≡ slots_words ss ++ (a ∷ b ∷ c ∷ [])
 positions-changed ss ws a b c full long e =
     sets-eq (a ∷ b ∷ c ∷ []) ws 80 (omega arith) ∙ rw (drop_of_length-le ws {i = 83} (omega arith), e, append-nil)

@@ -5,6 +5,7 @@ ghost use Rattle.layout.specs.Layout.{open_from, order_from, order_of};
 use machine::Order;
 
 // Reads a kind, and the order's fields after it.
+#[tactic(auto, unfolding(crate::specs::Layout::order_of))]
 pub fn read_order(words: &[u64]) -> Option<Order>
     ensures { result ≡ order_of words.now }
 {
@@ -15,6 +16,7 @@ pub fn read_order(words: &[u64]) -> Option<Order>
 }
 
 // The order of a kind and three words.
+#[tactic(auto, unfolding(crate::specs::Layout::order_from))]
 fn order_from(kind: u64, a: u64, b: u64, c: u64) -> Option<Order>
     ensures { result ≡ order_from kind a b c }
 {
@@ -28,8 +30,6 @@ fn order_from(kind: u64, a: u64, b: u64, c: u64) -> Option<Order>
 fn open_from(x: u64, a: u64, b: u64) -> Option<Order>
     ensures { result ≡ open_from x a b }
 {
-    if (a == 0) & (b == 0) {
-        return Some(Order::Open { x });
-    }
-    None
+    let ended = (a == 0) & (b == 0);
+    ended.then_some(Order::Open { x })
 }

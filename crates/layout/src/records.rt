@@ -2,52 +2,38 @@
 ghost use Rattle.std.specs.Prelude.{◌≡◌, ◌+◌, ◌<◌, ◌^◌, get_or, length};
 ghost use Rattle.machine.specs.Registers.{register_at};
 ghost use Rattle.machine.specs.Step.{moved};
-ghost use Rattle.order.specs.Changes.{Fits, changed};
+ghost use Rattle.order.specs.Changes.{Fits, Makes, changed, made};
 ghost use Rattle.layout.specs.Layout.{Says, machine_of, seen_of};
 
-use crate::registers::{RegisterRead, read_register, write_register};
-use machine::{MILLION, Machine, Register};
+use crate::registers::{REGISTER_WORDS, read_register, write_register};
+use machine::{MILLION, Machine, REGISTERS, Refusal, Register};
 use order::Change;
 
-// Whether words say a record, and a sound one.
-#[derive(Clone, Copy)]
-pub struct Seen {
-    pub ok: bool,
-    pub sound: bool,
-}
+// The positions of mask tapes, channels and dealer's tape stand behind the registers.
+pub const MASKS_AT: usize = REGISTERS * REGISTER_WORDS;
 
-const WORDS: usize = 83;
+pub const CHANNELS_AT: usize = MASKS_AT + 1;
 
-// Looks at every word. An unsound record is a record too.
-pub fn see(words: &[u64]) -> Seen
+pub const DEALER_AT: usize = MASKS_AT + 2;
+
+const WORDS: usize = MASKS_AT + 3;
+
+// Whether words say a sound record, where they say one: looks at every word. An unsound record is a record too.
+pub fn see(words: &[u64]) -> Option<bool>
     ensures { result ≡ seen_of (machine_of words.now) }
 {
     if words.len() != WORDS {
-        return Seen {
-            ok: false,
-            sound: false,
-        };
+        return None;
     }
     let mut sound = true;
-    let mut i = 0;
-    while i < 16 {
-        let at = 5 * i;
-        let RegisterRead::Found(r) = read_register(&words[at..]) else {
-            return Seen {
-                ok: false,
-                sound: false,
-            };
-        };
-        if !r.is_sound() {
-            sound = false;
-        }
-        i += 1;
+    for k in 0..REGISTERS {
+        let at = REGISTER_WORDS * k;
+        let register = read_register(&words[at..])?;
+        sound &= register.is_sound();
     }
-    let placed = (words[80] <= MILLION) & ((words[81] <= MILLION) & (words[82] <= MILLION));
-    Seen {
-        ok: true,
-        sound: sound & placed,
-    }
+    let placed = (words[MASKS_AT] <= MILLION)
+        & ((words[CHANNELS_AT] <= MILLION) & (words[DEALER_AT] <= MILLION));
+    Some(sound & placed)
 }
 
 // Register k of a record, empty past the last.
@@ -58,12 +44,8 @@ pub fn register_at(words: &[u64], k: u64) -> Register
     if 15 < k {
         return Register::Empty;
     }
-    let at = 5 * (k as usize);
-    let w = read_register(&words[at..]);
-    match w {
-        RegisterRead::Found(r) => r,
-        RegisterRead::NoRegister => Register::Empty,
-    }
+    let at = REGISTER_WORDS * (k as usize);
+    read_register(&words[at..]).unwrap_or(Register::Empty)
 }
 
 // The positions of a record, risen.
@@ -74,31 +56,40 @@ fn rise(gates: u64, sent: u64, items: u64, words: &mut [u64])
     requires dealer { get_or words.old 82 0 + items < 2 ^ 64 }
     ensures { (m : Machine) → Says words.old m → Says words.new (moved m gates sent items) }
 {
-    let a = words[80] + gates;
-    let b = words[81] + sent;
-    let c = words[82] + items;
-    words[80] = a;
-    words[81] = b;
-    words[82] = c;
+    let a = words[MASKS_AT] + gates;
+    let b = words[CHANNELS_AT] + sent;
+    let c = words[DEALER_AT] + items;
+    words[MASKS_AT] = a;
+    words[CHANNELS_AT] = b;
+    words[DEALER_AT] = c;
 }
 
 // The words of a record with a change.
-pub fn write_change(k: Change, words: &mut [u64])
-    requires { (m : Machine) × Says words.old m × Fits m k }
-    ensures { (m : Machine) → Says words.old m → Fits m k → Says words.new (changed k m) }
+fn write_made(k: Change, words: &mut [u64])
+    requires { (m : Machine) × Says words.old m × Makes m k }
+    ensures { (m : Machine) → Says words.old m → Makes m k → Says words.new (made k m) }
 {
     match k {
-        Change::Refused(_) => {}
         Change::Stored {
             d,
             register,
             gates,
             items,
         } => {
-            let at = 5 * (d as usize);
+            let at = REGISTER_WORDS * (d as usize);
             write_register(register, &mut words[at..]);
             rise(gates, gates, items, words)
         }
         Change::Opened { value: _ } => rise(0, 1, 0, words),
+    }
+}
+
+// The words of a record with what an order changes; a refused one changes nothing.
+pub fn write_change(k: Result<Change, Refusal>, words: &mut [u64])
+    requires { (m : Machine) × Says words.old m × Fits m k }
+    ensures { (m : Machine) → Says words.old m → Fits m k → Says words.new (changed k m) }
+{
+    if let Ok(change) = k {
+        write_made(change, words);
     }
 }

@@ -7,21 +7,19 @@ use gate::Sharing;
 use machine::Register;
 use ring::Ring;
 
+// The words of a register.
+pub const REGISTER_WORDS: usize = 5;
+
+// The tags are numbers, since the layout is that of the C interface.
 const EMPTY: u64 = 0;
 
 const NUMBER: u64 = 1;
 
 const BITS: u64 = 2;
 
-// A register, or words that are none.
-#[derive(Clone, Copy)]
-pub enum RegisterRead {
-    Found(Register),
-    NoRegister,
-}
-
-// Reads the register at the front of the words.
-pub fn read_register(words: &[u64]) -> RegisterRead
+// Reads the register at the front of the words, where they say one.
+#[tactic(auto, unfolding(crate::specs::Layout::register_of, crate::specs::Layout::register_from))]
+pub fn read_register(words: &[u64]) -> Option<Register>
     requires { 5 ≤ length words.now }
     ensures { result ≡ register_of words.now }
 {
@@ -35,29 +33,25 @@ pub fn read_register(words: &[u64]) -> RegisterRead
     match tag {
         EMPTY => empty_from(n, x),
         NUMBER => number_from(n, x),
-        BITS => RegisterRead::Found(Register::Bits(n, x)),
-        _ => RegisterRead::NoRegister,
+        BITS => Some(Register::Bits(n, x)),
+        _ => None,
     }
 }
 
 // An empty register has no other word than 0.
-fn empty_from(n: u64, x: Sharing) -> RegisterRead
+fn empty_from(n: u64, x: Sharing) -> Option<Register>
     ensures { result ≡ empty_from n x }
 {
-    if (n == 0) & ((x.s0 == 0) & ((x.s1 == 0) & (x.s2 == 0))) {
-        return RegisterRead::Found(Register::Empty);
-    }
-    RegisterRead::NoRegister
+    let blank = (n == 0) & ((x.s0 == 0) & ((x.s1 == 0) & (x.s2 == 0)));
+    blank.then_some(Register::Empty)
 }
 
 // A number has the width of a ring.
-fn number_from(n: u64, x: Sharing) -> RegisterRead
+fn number_from(n: u64, x: Sharing) -> Option<Register>
     ensures { result ≡ number_from (ring_of n) x }
 {
-    match Ring::of_width(n) {
-        Some(r) => RegisterRead::Found(Register::Number(r, x)),
-        None => RegisterRead::NoRegister,
-    }
+    let ring = Ring::of_width(n)?;
+    Some(Register::Number(ring, x))
 }
 
 // Writes a register to the front of the words.
@@ -66,14 +60,7 @@ pub fn write_register(r: Register, words: &mut [u64])
     ensures { words.new ≡ register_words r ++ drop 5 words.old }
 {
     match r {
-        Register::Empty => {
-            let none = Sharing {
-                s0: 0,
-                s1: 0,
-                s2: 0,
-            };
-            put_words(EMPTY, 0, none, words)
-        }
+        Register::Empty => put_words(EMPTY, 0, r.shares(), words),
         Register::Number(ring, x) => put_words(NUMBER, ring.width(), x, words),
         Register::Bits(l, x) => put_words(BITS, l, x, words),
     }

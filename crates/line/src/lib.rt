@@ -5,6 +5,6 @@ mod commands;
 mod printing;
 mod readings;
 
-pub use commands::Command;
+pub use commands::{Command, DEALER, MASKS};
 pub use printing::{print_line, put_field};
 pub use readings::{Fields, Reading, Taken, take_line};

@@ -18,7 +18,8 @@ pub fn put_field(out: &mut [u8], at: usize, n: u64, end: u8) -> usize
     stop + 1
 }
 
-// Writes the printed line at `at`, and answers the place after it.
+// Writes the printed line at `at`, and answers the place after it. No other function takes these five
+// numbers, so a struct of them would be made for its one call.
 pub fn print_line(
     out: &mut [u8],
     at: usize,

@@ -2,10 +2,10 @@
 ghost use Rattle.std.specs.Prelude.{List, ◌≡◌, ℕ};
 ghost use Rattle.gate.specs.Places.{Place};
 ghost use Rattle.order.specs.Answers.{reported};
-ghost use Rattle.order.specs.Changes.{Fits, Makes, applied, done_by, made};
+ghost use Rattle.order.specs.Changes.{Fits, Makes, answer_of, applied, done_by, made};
 
 use crate::answers::Outcome;
-use machine::{Done, Machine, Refusal, Register};
+use machine::{Answer, Done, Machine, Refusal, Register};
 
 // A register stored, with the gates spent and the dealer's items taken; or a value opened. A refused order makes none.
 #[derive(Clone, Copy)]
@@ -54,6 +54,16 @@ impl Change {
     }
 }
 
+// What an order answers.
+pub fn answer(k: Result<Change, Refusal>) -> Answer
+    ensures { result ≡ answer_of k }
+{
+    match k {
+        Ok(change) => Ok(change.done()),
+        Err(w) => Err(w),
+    }
+}
+
 // The record that an order leaves, and the answer.
 pub fn apply(m: Machine, k: Result<Change, Refusal>) -> Outcome
     requires { Fits m k }
@@ -62,11 +72,11 @@ pub fn apply(m: Machine, k: Result<Change, Refusal>) -> Outcome
     match k {
         Ok(change) => Outcome {
             machine: change.made(m),
-            answer: Ok(change.done()),
+            answer: answer(k),
         },
-        Err(w) => Outcome {
+        Err(_) => Outcome {
             machine: m,
-            answer: Err(w),
+            answer: answer(k),
         },
     }
 }

@@ -9,7 +9,7 @@ mod tasks;
 mod verdicts;
 
 pub use answers::{Outcome, gates, refusal, value};
-pub use changes::{Change, apply};
+pub use changes::{Change, answer, apply};
 pub use prepare::{add, compose, convert, decompose, multiply, scale, shift};
 pub use sources::{Positions, Sources};
 pub use tasks::{Cost, Prepared, Task};

@@ -1,12 +1,9 @@
 -- Planes of three places: loaded, stored, and read as figures' words.
 use Prim.Native.Nat.{ℕ, ◌+◌, ◌-◌, ◌<◌, ◌≤◌}
 use mathlib.Core.List.{List}
-use mathlib.Core.Logic.{⊎_elim}
 use mathlib.Core.Path.{◌≡◌, ap, refl, sym, ◌∙◌}
-use native.Mathlib.Nat.{eq-zero-or-pos}
 use native.Mathlib.Numerals.{add-one}
 use native.Mathlib.Omega.{arith}
-use borrow.Author.Count.{below_more}
 use lib.ListN.{get_or, get_or-replicate, length-set, replicate, set}
 use lib.Seq.{get_or-set_other, get_or-set_same}
 use Rattle.ring.specs.Rings.{bit_of}
@@ -16,7 +13,7 @@ use Rattle.circuit.specs.Sharings.{zeros}
 use Rattle.circuit.proofs.BitsLaw.{bit_lt, bit_none, gather-at, gather-ends, gather_same}
 use Rattle.decompose.specs.Words.{bits_at, stored}
 use Rattle.planes.specs.declared.places.Planes.{Planes}
-use Rattle.planes.specs.Planes.{Cleared, NoPlanes, Whole, columns, planes_at, with_planes}
+use Rattle.planes.specs.Planes.{NoPlanes, Whole, columns, planes_at, with_planes}
 
 -- ---- columns: figure k's words
 
@@ -97,27 +94,3 @@ none_kept {j = j} o w below is none = record {
 pub record ClearedTo (n j : ℕ) (before after : Planes) : Type 0 where
   pub stand : (i : ℕ) → i < n → planes_at i after ≡ planes_at i before
   pub none : (i : ℕ) → n ≤ i → i < j → planes_at i after ≡ zeros
-
-pub cleared_none : (n : ℕ) (o : Planes) → ClearedTo n n o o
-cleared_none n o = record { stand = λ i h. refl; none = λ i from h. absurd (omega arith) }
-
-pub cleared_more : {n j : ℕ} {before o o' : Planes} {w : Sharing} → n ≤ j → j < 64 → Whole o → w ≡ zeros → o' ≡ with_planes o j w
-    → ClearedTo n j before o → ClearedTo n (j + 1) before o'
-cleared_more {n} {j} {before} {o} {o'} {w} from inside whole none is so_far =
-    let other : (i : ℕ) → (i ≡ j → ⊥) → planes_at i o' ≡ planes_at i o
-    = λ i apart. ap (planes_at i) is ∙ other_planes o j w i apart in
-    record {
-      stand = λ i h. other i (λ e. omega arith) ∙ so_far.stand i h;
-      none = λ i low h.
-          below_more (λ i. n ≤ i → planes_at i o' ≡ zeros) j
-          (λ i h low. other i (λ e. omega arith) ∙ so_far.none i low h)
-          (λ low. ap (planes_at j) is ∙ stored_planes o j w inside whole ∙ none) i h low;
-    }
-
-pub cleared : {n e j : ℕ} {before after : Planes} → e ≤ j → NoPlanes e after → ClearedTo n j before after → Cleared n before after
-cleared {j = j} all above so_far = record {
-  stand = so_far.stand;
-  none = record {
-    at = λ i from h. ⊎_elim (λ far. above.at i (omega arith) h) (λ near. so_far.none i from (omega arith)) (eq-zero-or-pos (j - i));
-  };
-}

@@ -4,10 +4,9 @@ use mathlib.Core.List.{List}
 use mathlib.Core.Path.{◌≡◌, ap, ap₂, refl, sym, ◌∙◌}
 use native.Mathlib.Nat.{add-mul-div_right, div-eq_of_lt, mod-eq_of_lt, mod-lt, zero-add}
 use native.Mathlib.Omega.{arith}
-use borrow.Author.Count.{below_more, below_none}
+use borrow.Author.Count.{below_more}
 use borrow.Rule.Slice.PartMut.{mid_of, put_mid}
-use lib.Bits.{and_mask, bit_and}
-use lib.ListN.{get_or, length, length-set, set}
+use lib.ListN.{get_or, length, set}
 use lib.Pow.{pow_mono, pow_pos, shl_exact}
 use lib.Seq.{get_or-set_other, get_or-set_same}
 use Rattle.ring.specs.Rings.{bit_of, modulus, modulus_of, width_of}
@@ -68,9 +67,6 @@ pair_shifted small = shl_exact 32 32 64 small (omega arith)
 pub record Paired (n : ℕ) (v : ℕ → ℕ) (y : List ℕ) : Type 0 where
   pub two : (k : ℕ) → k < n → get_or y k 0 ≡ v k + v (32 + k) * 2 ^ 32
   pub none : NoneFrom 32 y
-
-pub none_paired : (v : ℕ → ℕ) (y : List ℕ) → NoneFrom 32 y → Paired 0 v y
-none_paired v y none = record { two = below_none _; none = none }
 
 pub paired_more : (y : List ℕ) (k w : ℕ) (v : ℕ → ℕ) → k < 32 → length y ≡ 64 → Paired k v y → w ≡ v k + v (32 + k) * 2 ^ 32
     → Paired (k + 1) v (set y k w)
@@ -153,30 +149,6 @@ planes_none e v {y} all small words = record {
       (λ k inside. sym (gather-at 64 (λ i. bit_of (get_or y i 0) k) (λ i. bit_lt (get_or y i 0) k) j h)
       ∙ ap (λ (w : ℕ). bit_of w j) (all.at k inside) ∙ bit_above e (v k) j (small k) from);
 }
-
--- ---- rows split one by one
-
-pub none_split : (o z : List ℕ) → Split 0 o z
-none_split o z = record { low = below_none _; high = below_none _ }
-
-pub split_more : (k : ℕ) (o z : List ℕ) → k < 32 → length z ≡ 64 → Split k o z
-    → Split (k + 1) o (set (set z k (bit_and (get_or o k 0) 0xffffffff)) (32 + k) (get_or o k 0 / 2 ^ 32))
-split_more k o z inside long done =
-    let w : ℕ = get_or o k 0 in
-    let first : List ℕ = set z k (bit_and w 0xffffffff) in
-    let after : List ℕ = set first (32 + k) (w / 2 ^ 32) in
-    let same : length first ≡ 64 = length-set z k (bit_and w 0xffffffff) ∙ long in
-    let other : (i : ℕ) → (i ≡ k → ⊥) → (i ≡ 32 + k → ⊥) → get_or after i 0 ≡ get_or z i 0
-    = λ i a b. get_or-set_other first (32 + k) i (w / 2 ^ 32) 0 b ∙ get_or-set_other z k i (bit_and w 0xffffffff) 0 a in
-    record {
-      low = below_more (λ i. get_or after i 0 ≡ get_or o i 0 % 2 ^ 32) k
-          (λ i h. other i (λ e. omega arith) (λ e. omega arith) ∙ done.low i h)
-          (get_or-set_other first (32 + k) k (w / 2 ^ 32) 0 (λ e. omega arith) ∙ get_or-set_same z k (bit_and w 0xffffffff) 0 (omega arith)
-          ∙ and_mask w 32);
-      high = below_more (λ i. get_or after (32 + i) 0 ≡ get_or o i 0 / 2 ^ 32) k
-          (λ i h. other (32 + i) (λ e. omega arith) (λ e. omega arith) ∙ done.high i h)
-          (get_or-set_same first (32 + k) (w / 2 ^ 32) 0 (omega arith));
-    }
 
 -- ---- four times a figure
 

@@ -3,7 +3,7 @@ use Prim.Native.Nat.{ℕ, ◌+◌, ◌*◌, ◌-◌, ◌<◌, ◌≤◌}
 use mathlib.Core.Logic.{⊎_elim}
 use mathlib.Core.Path.{◌≡◌, ap, ap₂, refl, ◌∙◌}
 use mathlib.Core.List.{List}
-use native.Mathlib.Nat.{eq-zero-or-pos, mul-le-mul_right, not-suc-le-zero}
+use native.Mathlib.Nat.{eq-zero-or-pos, mul-le-mul_right}
 use borrow.Author.Count.{below_more}
 use native.Mathlib.Omega.{arith}
 use lib.ListN.{get_or, length, set, length-set}
@@ -19,15 +19,6 @@ pub block_at : {n height : ℕ} {e a : List ℕ} → BlocksTransposed n height e
 block_at t q u r l hr hl hq hu ex ey ex' ey' = rw (ex, ey, ex', ey') (t.is q u r l hr hl hq hu)
 
 -- ---- the pairs of one block
-
-pub none_exchanged : (h m at : ℕ) (w : List ℕ) → Exchanged h m at 0 w w
-none_exchanged h m at w = record {
-  upper = λ l below. absurd (not-suc-le-zero below);
-  lower = λ l below. absurd (not-suc-le-zero below);
-  first = λ x below. refl;
-  middle = λ x from below. refl;
-  last = λ x from. refl;
-}
 
 -- two stores leave the others
 others : (w : List ℕ) (A B : ℕ) {i j x : ℕ} → (x ≡ i → ⊥) → (x ≡ j → ⊥) → get_or (set (set w i A) j B) x 0 ≡ get_or w x 0
@@ -70,13 +61,6 @@ module _ {h m at n A B : ℕ} {before now : List ℕ} (done : Exchanged h m at n
   }
 
 -- ---- the blocks of one level
-
-pub none_levelled : (h m : ℕ) (w : List ℕ) → Levelled h m 0 w w
-none_levelled h m w = record {
-  upper = λ q l none below. absurd (not-suc-le-zero none);
-  lower = λ q l none below. absurd (not-suc-le-zero none);
-  rest = λ x from. refl;
-}
 
 module _ {h m n : ℕ} {before now after : List ℕ} (done : Levelled h m n before now) (one : Exchanged h m (n * (2 * h)) h now after) where
   -- a block before the one at hand ends where that one starts

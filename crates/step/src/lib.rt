@@ -1,4 +1,5 @@
-// The machine's step: one order on a record, with the tapes and channels that are lent.
+// The machine's step: one order on a record, with the tapes and channels that are lent, which stay slices side by side: C lends them
+// so, one by one.
 #![tactic(auto)]
 
 mod found;
@@ -17,8 +18,8 @@ use crate::ways::{Way, way_of};
 use attempt::attempt;
 use exchange::{deal, open};
 pub use found::{Found, other, source};
-use machine::{Machine, Order};
-use order::{Change, Outcome, apply};
+use machine::{Machine, Order, Refusal};
+use order::{Change, Outcome, Positions, Sources, apply};
 pub use words::step_words;
 
 // What an order does to a record, by what it has found there.
@@ -32,19 +33,16 @@ pub fn decide(
     c0: &mut [u64],
     c1: &mut [u64],
     c2: &mut [u64],
-) -> Change
+) -> Result<Change, Refusal>
     requires { (m : Machine) × (found ≡ found_in m o) }
     ensures { (m : Machine) → found ≡ found_in m o → Changes m result (at_exit c0 c1 c2) (step o m (tapes_at m0 m1 m2 dealer) (at_entry_mut c0 c1 c2)) }
 {
-    let s = found.sound;
-    let a = found.a;
-    let at = found.masks_at;
-    let ch = found.channels_at;
-    let w = way_of(found, o);
-    match w {
-        Way::Deal { d, e, v } => deal(s, found.dealer_at, d, e, v, dealer),
-        Way::Attempt(d, t) => attempt(at, ch, d, t, m0, m1, m2, c0, c1, c2),
-        Way::Open { x } => open(s, x, a, ch, c0, c1, c2),
+    let s = found.sources;
+    let at = found.at;
+    match way_of(s, o) {
+        Way::Deal { d, e, v } => deal(s.sound, at.dealer, d, e, v, dealer),
+        Way::Attempt(d, t) => attempt(at, d, t?, m0, m1, m2, c0, c1, c2),
+        Way::Open { x } => open(s, x, at.channels, c0, c1, c2),
     }
 }
 
@@ -64,12 +62,16 @@ pub fn step(
     ensures lent { TapesStand m0 m1 m2 dealer }
 {
     let found = Found {
-        sound: m.is_sound(),
-        a: m.register(source(o)),
-        b: m.register(other(o)),
-        masks_at: m.masks_at,
-        channels_at: m.channels_at,
-        dealer_at: m.dealer_at,
+        sources: Sources {
+            sound: m.is_sound(),
+            a: m.register(source(o)),
+            b: m.register(other(o)),
+        },
+        at: Positions {
+            masks: m.masks_at,
+            channels: m.channels_at,
+            dealer: m.dealer_at,
+        },
     };
     apply(m, decide(found, o, m0, m1, m2, dealer, c0, c1, c2))
 }

@@ -9,8 +9,9 @@ ghost use Rattle.step.specs.Words.{Reports};
 
 use crate::decide;
 use crate::found::{Found, other, source};
-use layout::{register_at, write_change};
+use layout::{CHANNELS_AT, DEALER_AT, MASKS_AT, register_at, write_change};
 use machine::{Answer, Machine, Order};
+use order::{Positions, Sources, answer};
 
 // The step of 83 words that say a record, sound or not as `sure` tells.
 pub fn step_words(
@@ -31,14 +32,18 @@ pub fn step_words(
     ensures lent { TapesStand m0 m1 m2 dealer }
 {
     let found = Found {
-        sound: sure,
-        a: register_at(record, source(o)),
-        b: register_at(record, other(o)),
-        masks_at: record[80],
-        channels_at: record[81],
-        dealer_at: record[82],
+        sources: Sources {
+            sound: sure,
+            a: register_at(record, source(o)),
+            b: register_at(record, other(o)),
+        },
+        at: Positions {
+            masks: record[MASKS_AT],
+            channels: record[CHANNELS_AT],
+            dealer: record[DEALER_AT],
+        },
     };
     let k = decide(found, o, m0, m1, m2, dealer, c0, c1, c2);
     write_change(k, record);
-    k.answer()
+    answer(k)
 }

@@ -7,7 +7,7 @@ ghost use Rattle.ring.specs.Rings.{Sized, modulus_of};
 ghost use Rattle.timing.specs.Chains.{Ran, Shape, chain, gates, in_range, shaped, started, triple_at};
 
 use crate::products::same_lengths;
-use gate::{Sharing, ring_gate};
+use gate::{Sharing, ring_words, send};
 use ring::Ring;
 
 // The three words of ws at `at` and on.
@@ -61,7 +61,8 @@ fn run_chain(
         if !in_range(p, t) {
             return i;
         }
-        z = ring_gate(e, p, z, y, t, &mut c0[i..], &mut c1[i..], &mut c2[i..]);
+        z = ring_words(e, p, z, y, t);
+        send(z, &mut c0[i..], &mut c1[i..], &mut c2[i..]);
     }
     c0.len()
 }

@@ -7,8 +7,7 @@ use native.Mathlib.Omega.{arith}
 use borrow.Author.Tests.{leb-true}
 use lib.Dec.{leb}
 use Rattle.gate.specs.Places.{Place, three}
-use Rattle.machine.specs.Checks.{Lengths}
-use Rattle.order.specs.Attempts.{lengths_in}
+use Rattle.attempt.specs.Lengths.{lengths_told}
 use Rattle.ring.proofs.RangeLaw.{modulus-lt, width_ge, width_le}
 use Rattle.machine.proofs.KindLaw.{right_true}
 use Rattle.batch.proofs.CodeLaw.{bits_met, lengths-left, share_met}
@@ -35,14 +34,14 @@ pub returns-then-not-l-most : goal.returns-then-not-l-most
 returns-then-not-l-most c =
     let a = c.args in
     let shares : Place → List ℕ = three a.a0.now a.a1.now a.a2.now in
-    let lent : Lengths = lengths_in (three a.m0 a.m1 a.m2) (three a.c0 a.c1 a.c2) in
+    let lent = lengths_told a.len in
     bits_met a.r a.l shares lent c.width-most.ensures (ap not c.if-not-l-most.true)
 
 pub returns-then-any_outside : goal.returns-then-any_outside
 returns-then-any_outside c =
     let a = c.args in
     let shares : Place → List ℕ = three a.a0.now a.a1.now a.a2.now in
-    let lent : Lengths = lengths_in (three a.m0 a.m1 a.m2) (three a.c0 a.c1 a.c2) in
+    let lent = lengths_told a.len in
     share_met a.r a.l shares lent c.width-most.ensures c.modulus-p.ensures (ap not c.if-not-l-most.false)
     c.any_outside.ensures c.if-any_outside.true
 
@@ -50,7 +49,7 @@ pub returns : goal.returns
 returns c =
     let a = c.args in
     let shares : Place → List ℕ = three a.a0.now a.a1.now a.a2.now in
-    let lent : Lengths = lengths_in (three a.m0 a.m1 a.m2) (three a.c0 a.c1 a.c2) in
+    let lent = lengths_told a.len in
     lengths-left a.r a.l shares lent c.width-most.ensures c.modulus-p.ensures
     (ap not c.if-not-l-most.false) c.any_outside.ensures c.if-any_outside.false c.room.ensures
 

@@ -1,8 +1,12 @@
-use mathlib.Core.Path.{◌≡◌, ◌∙◌}
+use Rattle.std.specs.Option.{unwrap_or}
+use Rattle.std.specs.Prelude.{Option}
+use mathlib.Core.Path.{◌≡◌, ap, ◌∙◌}
 use native.Mathlib.Omega.{arith}
 use lib.ListN.{length, length-drop}
 use Rattle.circuit.proofs.LentLaw.{part_is}
-use Rattle.layout.proofs.SaysLaw.{past_said, read_is, read_there, register_said, says_length}
+use Rattle.machine.specs.declared.registers.Register.{Register}
+use Rattle.machine.specs.declared.registers.Register.TheVariants.{Empty}
+use Rattle.layout.proofs.SaysLaw.{past_said, register_said, says_length}
 use Rattle.layout.proofs.records.register_at.Goals as goal
 
 pub returns-then-k-gt15 : goal.returns-then-k-gt15
@@ -11,18 +15,10 @@ returns-then-k-gt15 c = λ m says. past_said says _ c.if-k-gt15.true
 long : (c : goal.Else-k-gt15) → length c.args.words.now ≡ 83
 long c = says_length c.requires.1
 
-pub read_register-w-requires : goal.read_register-w-requires
-read_register-w-requires c =
+pub read_register-requires : goal.read_register-requires
+read_register-requires c =
     let long : length c.args.words.now ≡ 83 = says_length c.requires.1 in
-    let n = long in rw (part_is, length-drop) (omega arith)
-
-pub returns-in-Found : goal.returns-in-Found
-returns-in-Found c = λ m says.
-    read_is c.in-Found.is (c.read_register-w.ensures ∙ register_said says _ c.if-k-gt15.false)
-
-pub returns-in-NoRegister : goal.returns-in-NoRegister
-returns-in-NoRegister c = λ m says.
-    read_there c.in-NoRegister.is (c.read_register-w.ensures ∙ register_said says _ c.if-k-gt15.false)
+    rw (part_is, length-drop) (omega arith)
 
 pub slice_bounds-read_register-count : goal.slice_bounds-read_register-count
 slice_bounds-read_register-count c =
@@ -31,3 +27,8 @@ slice_bounds-read_register-count c =
 pub slice_bounds-read_register-start : goal.slice_bounds-read_register-start
 slice_bounds-read_register-start c =
     omega (arith, long c)
+
+pub returns : goal.returns
+returns c = λ m says.
+    c.unwrap_or.ensures
+    ∙ ap (λ (o : Option Register). unwrap_or o Empty) (c.read_register.ensures ∙ register_said says _ c.if-k-gt15.false)

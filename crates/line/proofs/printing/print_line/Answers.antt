@@ -4,14 +4,11 @@ use Rattle.line.specs.Printed.{printed}
 use Rattle.line.proofs.PrintLaw.{also}
 use Rattle.line.proofs.printing.print_line.Goals as goal
 
-pub returns : goal.returns
+pub returns-clause-writes : goal.returns-clause-writes
 unfolding printed
-returns c =
-    record {
-      writes = also c.put_field-a.ensures.writes
-          (also c.put_field-b.ensures.writes
-          (also c.put_field-c.ensures.writes
-          (also c.put_field-d.ensures.writes c.put_field.ensures.writes (omega arith))
-          (omega arith)) (omega arith)) (omega arith);
-      short = omega arith;
-    }
+returns-clause-writes c =
+    also c.put_field-a.ensures.writes
+    (also c.put_field-b.ensures.writes
+    (also c.put_field-c.ensures.writes
+    (also c.put_field-d.ensures.writes c.put_field.ensures.writes (omega arith))
+    (omega arith)) (omega arith)) (omega arith)

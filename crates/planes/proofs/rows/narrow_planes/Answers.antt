@@ -6,7 +6,7 @@ use borrow.Rule.Slice.PartMut.{mid_len}
 use lib.ListN.{length-set}
 use Rattle.ring.specs.Rings.{modulus_of, width_of}
 use Rattle.planes.specs.Planes.{four_times_at}
-use Rattle.planes.proofs.RowLaw.{halves_are, halves_small, narrow_lt, none_paired, pair_shifted, paired_more, planes_none, width_lt}
+use Rattle.planes.proofs.RowLaw.{halves_are, halves_small, narrow_lt, pair_shifted, paired_more, planes_none, width_lt}
 use Rattle.planes.proofs.rows.narrow_planes.Goals as goal
 
 pub overflow_add-y : goal.overflow_add-y
@@ -25,10 +25,9 @@ loop-k-preserved c =
     let high = c.four_times-high in
     let small : high.result < 2 ^ 32
     = rw high.ensures.is (narrow_lt c.args.r c.args.a.now (32 + head.k) c.requires.width) in (
-      omega arith,
-      simp length-set head.invariant.1,
+      simp length-set head.invariant.0,
       paired_more head.y head.k (low.result + (high.result * 2 ^ 32) % 2 ^ 64) (four_times_at (modulus_of c.args.r) c.args.a.now)
-          (omega arith) head.invariant.1 head.invariant.2
+          (omega arith) head.invariant.0 head.invariant.1
           (ap₂ (λ (a b : ℕ). a + b) low.ensures.is (pair_shifted small ∙ ap (λ (n : ℕ). n * 2 ^ 32) high.ensures.is)),
     )
 
@@ -39,14 +38,10 @@ returns c =
     let turned = c.transpose_halves in
     let long = turned.ensures.long ∙ mid_len 0 32 head.y (omega arith) in
     let v = four_times_at (modulus_of c.args.r) c.args.a.now in
-    let rows = rw same at head.invariant.2 in
-    let all = halves_are head.y turned.new.rows head.invariant.1 long turned.ensures.is v (λ k h. narrow_lt c.args.r c.args.a.now k c.requires.width) rows in
+    let rows = rw same at head.invariant.1 in
+    let all = halves_are head.y turned.new.rows head.invariant.0 long turned.ensures.is v (λ k h. narrow_lt c.args.r c.args.a.now k c.requires.width) rows in
     record {
       is = all;
       none = planes_none (width_of c.args.r) v all (λ k. width_lt c.args.r c.args.a.now k)
-          (halves_small head.y turned.new.rows head.invariant.1 long turned.ensures.is v rows turned.ensures.words);
+          (halves_small head.y turned.new.rows head.invariant.0 long turned.ensures.is v rows turned.ensures.words);
     }
-
-pub loop-k-init : goal.loop-k-init
-loop-k-init c =
-    (omega arith, omega arith, none_paired _ _ c.requires.empty)

@@ -1,4 +1,3 @@
-use Prim.Native.Nat.{◌-◌, ◌≤◌}
 use mathlib.Core.Path.{◌≡◌}
 use lib.ListN.{length}
 use Rattle.ring.specs.Rings.{modulus_of}
@@ -7,7 +6,4 @@ use Rattle.planes.proofs.RowLaw.{Paired}
 use Rattle.planes.proofs.rows.narrow_planes.Given as goal
 
 abbrev pub invariant-loop-k : goal.invariant-loop-k
-invariant-loop-k l = (l.k ≤ 32) × (length l.y ≡ 64) × Paired l.k (four_times_at (modulus_of l.r) l.a) l.y
-
-abbrev pub decreases-loop-k : goal.decreases-loop-k
-decreases-loop-k l = 32 - l.k
+invariant-loop-k l = (length l.y ≡ 64) × Paired l.k (four_times_at (modulus_of l.r) l.a) l.y

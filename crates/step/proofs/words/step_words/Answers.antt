@@ -14,16 +14,17 @@ use Rattle.machine.specs.declared.registers.Machine.{Machine}
 use Rattle.machine.specs.declared.registers.Register.{Register}
 use Rattle.layout.specs.Layout.{Says}
 use Rattle.layout.proofs.SaysLaw.{says_length}
-use Rattle.step.specs.Found.{found_in, other_of, source_of}
+use Rattle.order.specs.Sources.{first_source, second_source}
+use Rattle.step.specs.Found.{found_in}
 use Rattle.step.proofs.StepLaw.{found_in_lem, written}
 use Rattle.step.proofs.words.step_words.Goals as goal
 
 -- what is found of a record that the words say
 finds : {s : Bool} (o : Order) {ws : List ℕ} {x y : ℕ} {a b : Register}
-    → x ≡ source_of o → ((m : Machine) → Says ws m → a ≡ register_at m x)
-    → y ≡ other_of o → ((m : Machine) → Says ws m → b ≡ register_at m y)
+    → x ≡ first_source o → ((m : Machine) → Says ws m → a ≡ register_at m x)
+    → y ≡ second_source o → ((m : Machine) → Says ws m → b ≡ register_at m y)
     → (m : Machine) → Says ws m → s ≡ sound m
-    → record { sound = s; a = a; b = b; masks_at = get_or ws 80 0; channels_at = get_or ws 81 0; dealer_at = get_or ws 82 0 } ≡ found_in m o
+    → record { sources = record { sound = s; a = a; b = b }; at = record { masks = get_or ws 80 0; channels = get_or ws 81 0; dealer = get_or ws 82 0 } } ≡ found_in m o
 finds {s} o {ws} ex ha ey hb m says is = found_in_lem m o ws says is ex (ha m says) ey (hb m says)
 
 pub register_at-requires : goal.register_at-requires

@@ -16,33 +16,36 @@ returns-then-not-in_range c =
     stopped _ _ _ _ _ c.loop-i.invariant.4 (omega arith) c.triple-t.ensures
     (test_of _ refl c.in_range.ensures (c.if-not-in_range.true))
 
-pub ring_gate-z-requires : goal.ring_gate-z-requires
-ring_gate-z-requires c =
-    let room₀ = mid_len c.loop-i.i (length c.loop-i.c0) c.loop-i.c0 (omega arith) in
-    let room₁ = mid_len c.loop-i.i (length c.loop-i.c1) c.loop-i.c1 (omega arith) in
-    let room₂ = mid_len c.loop-i.i (length c.loop-i.c2) c.loop-i.c2 (omega arith) in
+pub ring_words-z-requires : goal.ring_words-z-requires
+ring_words-z-requires c =
     let fits = test_of _ refl c.in_range.ensures (c.if-not-in_range.false) in record {
       sized = c.requires.sized;
       left = c.loop-i.invariant.3;
       right = c.requires.right;
       items = range_of fits;
-      room = record { zero = omega arith; one = omega arith; two = omega arith };
     }
+
+pub send-requires : goal.send-requires
+send-requires c =
+    let room₀ = mid_len c.loop-i.i (length c.loop-i.c0) c.loop-i.c0 (omega arith) in
+    let room₁ = mid_len c.loop-i.i (length c.loop-i.c1) c.loop-i.c1 (omega arith) in
+    let room₂ = mid_len c.loop-i.i (length c.loop-i.c2) c.loop-i.c2 (omega arith) in
+    record { zero = omega arith; one = omega arith; two = omega arith }
 
 pub loop-i-preserved : goal.loop-i-preserved
 loop-i-preserved c =
     let inv = c.loop-i.invariant in
     let i = c.loop-i.i in (
-      same_len_mid i (length c.loop-i.c0 - i) c.loop-i.c0 c.ring_gate-z.new.c0 c.ring_gate-z.auto.c0 ∙ inv.0,
-      same_len_mid i (length c.loop-i.c1 - i) c.loop-i.c1 c.ring_gate-z.new.c1 c.ring_gate-z.auto.c1 ∙ inv.1,
-      same_len_mid i (length c.loop-i.c2 - i) c.loop-i.c2 c.ring_gate-z.new.c2 c.ring_gate-z.auto.c2 ∙ inv.2,
-      c.ring_gate-z.ensures.below,
+      same_len_mid i (length c.loop-i.c0 - i) c.loop-i.c0 c.send.new.c0 c.send.auto.c0 ∙ inv.0,
+      same_len_mid i (length c.loop-i.c1 - i) c.loop-i.c1 c.send.new.c1 c.send.auto.c1 ∙ inv.1,
+      same_len_mid i (length c.loop-i.c2 - i) c.loop-i.c2 c.send.new.c2 c.send.auto.c2 ∙ inv.2,
+      c.ring_words-z.ensures.below,
       went_on _ _ _ _ _ inv.4 (omega (arith, c.loop-i-test.true, inv.0)) c.requires.lengths.one c.requires.lengths.two
           inv.0 inv.1 inv.2
           c.triple-t.ensures
           (test_of _ refl c.in_range.ensures (c.if-not-in_range.false))
-          c.ring_gate-z.ensures.is
-          c.ring_gate-z.ensures.sent,
+          c.ring_words-z.ensures.is
+          c.send.ensures,
     )
 
 pub returns : goal.returns

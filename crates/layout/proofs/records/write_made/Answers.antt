@@ -6,25 +6,19 @@ use lib.ListN.{length, length-drop}
 use Rattle.circuit.proofs.LentLaw.{part_is}
 use Rattle.machine.specs.Registers.{with_register}
 use Rattle.machine.specs.declared.registers.Machine.{Machine}
-use Rattle.order.specs.Changes.{Fits}
+use Rattle.order.specs.Changes.{Makes}
 use Rattle.order.specs.declared.changes.Change.{Change}
 use Rattle.order.specs.declared.changes.Change.TheVariants.{Stored}
 use Rattle.layout.specs.Layout.{Says}
-use Rattle.layout.proofs.SaysLaw.{register_changed, rises, says_length}
-use Rattle.layout.proofs.records.write_change.Goals as goal
+use Rattle.layout.proofs.SaysLaw.{positions-said, register_changed, rises, says_length}
+use Rattle.layout.proofs.records.write_made.Goals as goal
 
-fits_as : (m : Machine) {k l : Change} → k ≡ l → Fits m k → Fits m l
+fits_as : (m : Machine) {k l : Change} → k ≡ l → Makes m k → Makes m l
 fits_as m e h = rw e at h
 
 fits-stored : (c : goal.In-Stored)
-    → Fits c.requires.0 (Stored c.in-Stored.d c.in-Stored.register c.in-Stored.gates c.in-Stored.items)
+    → Makes c.requires.0 (Stored c.in-Stored.d c.in-Stored.register c.in-Stored.gates c.in-Stored.items)
 fits-stored c = fits_as c.requires.0 c.in-Stored.is c.requires.2
-
-pub overflow_mul-at : goal.overflow_mul-at
-overflow_mul-at c = let seat = (fits-stored c).0 in omega arith
-
-pub offset_bounds-words-at : goal.offset_bounds-words-at
-offset_bounds-words-at c = let seat = (fits-stored c).0 in omega arith
 
 pub slice_bounds-write_register-count : goal.slice_bounds-write_register-count
 slice_bounds-write_register-count c = let seat = (fits-stored c).0 in let long = says_length c.requires.1 in omega arith
@@ -34,7 +28,7 @@ slice_bounds-write_register-start c = let seat = (fits-stored c).0 in let long =
 
 pub write_register-requires : goal.write_register-requires
 write_register-requires c =
-    let fits-stored : Fits c.requires.0 (Stored c.in-Stored.d c.in-Stored.register c.in-Stored.gates c.in-Stored.items)
+    let fits-stored : Makes c.requires.0 (Stored c.in-Stored.d c.in-Stored.register c.in-Stored.gates c.in-Stored.items)
     = fits_as c.requires.0 c.in-Stored.is c.requires.2 in
     let seat = fits-stored.0 in
     let long = says_length c.requires.1 in
@@ -43,7 +37,7 @@ write_register-requires c =
 pub rise-requires : goal.rise-requires
 unfolding with_register
 rise-requires c =
-    let fits-stored : Fits c.requires.0 (Stored c.in-Stored.d c.in-Stored.register c.in-Stored.gates c.in-Stored.items)
+    let fits-stored : Makes c.requires.0 (Stored c.in-Stored.d c.in-Stored.register c.in-Stored.gates c.in-Stored.items)
     = fits_as c.requires.0 c.in-Stored.is c.requires.2 in
     let stored : (m : Machine)
     → let ws = c.args.words.now in
@@ -61,18 +55,14 @@ rise-requires c =
       dealer = whole.1.1.1;
     }
 
-pub rise-requires-in-Opened : goal.rise-requires-in-Opened
-rise-requires-in-Opened c =
+pub rise-requires-in-Opened-clause-long : goal.rise-requires-in-Opened-clause-long
+rise-requires-in-Opened-clause-long c = says_length c.requires.1
+
+pub rise-requires-in-Opened-clause-channels : goal.rise-requires-in-Opened-clause-channels
+rise-requires-in-Opened-clause-channels c =
     let fits = fits_as c.requires.0 c.in-Opened.is c.requires.2 in
-    let masks = fits.0 in
-    let channels = fits.1 in
-    let dealer = fits.2 in
-    let whole = rises c.requires.1 0 1 0 (omega arith) (omega arith) (omega arith) in record {
-      long = whole.0;
-      masks = whole.1.0;
-      channels = whole.1.1.0;
-      dealer = whole.1.1.1;
-    }
+    let at = positions-said c.requires.1 in
+    omega (arith, fits, at)
 
 pub returns-in-Stored : goal.returns-in-Stored
 unfolding with_register
@@ -85,11 +75,3 @@ returns-in-Stored c =
     λ m says fits.
     let h = fits_as m c.in-Stored.is fits in
     rw c.in-Stored.is (c.rise.ensures _ (stored m says h.0.register))
-
-pub returns-in-Opened : goal.returns-in-Opened
-returns-in-Opened c = λ m says fits.
-    rw c.in-Opened.is (c.rise-in-Opened.ensures m says)
-
-pub returns-in-Refused : goal.returns-in-Refused
-returns-in-Refused c =
-    λ m says fits. rw c.in-Refused.is says
