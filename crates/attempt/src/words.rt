@@ -1,5 +1,6 @@
 // The gates of orders 4 to 8 on the runs that they are lent.
-ghost use Rattle.gate.specs.Places.{parts, three};
+ghost use Rattle.gate.specs.Lent.{at_entry, at_entry_mut, at_exit};
+ghost use Rattle.gate.specs.Places.{parts};
 ghost use Rattle.circuit.specs.Lent.{Left};
 ghost use Rattle.order.specs.Tasks.{Fit, circuit_of, cost_of, other_of, source_of};
 ghost use Rattle.attempt.specs.Supplies.{Supplied};
@@ -23,7 +24,7 @@ pub fn words(
 ) -> Sharing
     requires fit { Fit t }
     requires supplied { Supplied (cost_of t) m0.now m1.now m2.now c0.old c1.old c2.old }
-    ensures { Left (circuit_of t) (parts (source_of t)) (parts (other_of t)) (three m0.now m1.now m2.now) (three c0.old c1.old c2.old) result (three c0.new c1.new c2.new) }
+    ensures { Left (circuit_of t) (parts (source_of t)) (parts (other_of t)) (at_entry m0 m1 m2) (at_entry_mut c0 c1 c2) result (at_exit c0 c1 c2) }
 {
     let lent = &mut Lent {
         m0,

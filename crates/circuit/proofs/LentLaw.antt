@@ -4,14 +4,14 @@ use mathlib.Core.List.{List, [], ◌∷◌, ◌++◌, append_assoc, append-nil}
 use mathlib.Core.Path.{◌≡◌, ap, fun_ext, refl, sym, ◌∙◌}
 use native.Mathlib.Nat.{le_refl}
 use native.Mathlib.Omega.{arith}
-use lib.ListN.{drop, drop_of_length-le, get_or, length, length-append, length-drop, set, take}
-use lib.Seq.{drop_at, drop-drop, get_or-drop, set_split, take_all, take_at}
+use lib.ListN.{drop, drop_of_length-le, length, length-append, length-drop, set, take}
+use lib.Seq.{drop_at, drop-drop, set_split, take_all, take_at}
 use borrow.Rule.Slice.PartMut.{mid_of, put_mid}
 use Rattle.gate.specs.Places.{Place, parts, tabled, three}
 use Rattle.gate.specs.declared.sharing.Sharing.{Sharing}
 use Rattle.gate.proofs.PlaceLaw.{each}
 use Rattle.circuit.specs.Circuits.{Circuit, Gate, after, channelled, ends, heads, result, sent, starts, words}
-use Rattle.circuit.specs.Lent.{ItemsBelow, Left, Long, Ran}
+use Rattle.circuit.specs.Lent.{Left, Long, Ran}
 use Rattle.circuit.proofs.RunLaw.{drops, ends-append, length-sent, sent-append}
 
 -- a run's part from k on, and the run with other words there
@@ -139,9 +139,6 @@ long_same same h = record { zero = omega arith; one = omega arith; two = omega a
 pub long_less : {k n : ℕ} {t₀ t₁ t₂ : List ℕ} → k ≤ n → Long n t₀ t₁ t₂ → Long k t₀ t₁ t₂
 long_less fewer h = record { zero = omega arith; one = omega arith; two = omega arith }
 
-pub below_less : {m k n : ℕ} {t₀ t₁ t₂ : List ℕ} → k ≤ n → ItemsBelow m n t₀ t₁ t₂ → ItemsBelow m k t₀ t₁ t₂
-below_less fewer h = record { zero = λ j b. h.zero j (omega arith); one = λ j b. h.one j (omega arith); two = λ j b. h.two j (omega arith) }
-
 -- what is long enough, and in range, for k + n words is so from k on for n
 part_long : (n k : ℕ) (t : List ℕ) → k + n ≤ length t → n ≤ length (part_from k t)
 part_long n k t h = rw (part_is k t, length-drop k t) (omega arith)
@@ -149,10 +146,3 @@ part_long n k t h = rw (part_is k t, length-drop k t) (omega arith)
 pub long_on : (n k : ℕ) {t₀ t₁ t₂ : List ℕ} → Long (k + n) t₀ t₁ t₂ → Long n (part_from k t₀) (part_from k t₁) (part_from k t₂)
 long_on n k {t₀} {t₁} {t₂} h =
     record { zero = part_long n k t₀ h.zero; one = part_long n k t₁ h.one; two = part_long n k t₂ h.two }
-
-part_below : (m n k : ℕ) (t : List ℕ) → ((j : ℕ) → j < k + n → get_or t j 0 < m) → (j : ℕ) → j < n → get_or (part_from k t) j 0 < m
-part_below m n k t h j below = rw (part_is k t, get_or-drop k t j 0) (h (k + j) (omega arith))
-
-pub below_on : (m n k : ℕ) {t₀ t₁ t₂ : List ℕ} → ItemsBelow m (k + n) t₀ t₁ t₂ → ItemsBelow m n (part_from k t₀) (part_from k t₁) (part_from k t₂)
-below_on m n k {t₀} {t₁} {t₂} h =
-    record { zero = part_below m n k t₀ h.zero; one = part_below m n k t₁ h.one; two = part_below m n k t₂ h.two }

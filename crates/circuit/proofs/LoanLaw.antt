@@ -5,8 +5,8 @@ use mathlib.Core.Path.{◌≡◌, ap, fun_ext, refl, sym, ◌∙◌}
 use native.Mathlib.Nat.{add-zero}
 use native.Mathlib.Omega.{arith}
 use native.Mathlib.Numerals.{add-one}
-use lib.ListN.{drop, get_or, length, length-append, length-drop, set, take, take-append-drop}
-use lib.Seq.{drop_at, drop-drop, get_or-drop, take-add, take_at}
+use lib.ListN.{drop, length, length-append, length-drop, take, take-append-drop}
+use lib.Seq.{drop_at, drop-drop, get_or-drop, take_at}
 use Rattle.std.proofs.lemmas.List.{drop-take, take-take}
 use Rattle.gate.specs.Places.{InRange, Place, Sent, p0, p1, p2, parts, three}
 use Rattle.gate.specs.declared.sharing.Sharing.{Sharing}
@@ -216,9 +216,6 @@ room_less k less room =
       masks = record { zero = omega arith; one = omega arith; two = omega arith };
       channels = record { zero = omega arith; one = omega arith; two = omega arith };
     }
-
-pub supplied_less : {m n : ℕ} (k : ℕ) {v : Lent} → k ≤ n → Supplied m n v → Supplied m k v
-supplied_less {m} {n} k less supplied = record { room = room_less k less supplied.room; items = items_less m n 0 k (omega arith) supplied.items }
 
 -- the next items are the heads of the tapes
 pub heads_next : (v : Lent) → heads (drops v.at (tapes v)) ≡ parts (items_next v)

@@ -1,23 +1,17 @@
 -- One gate a turn on lent runs: the items that it takes, the words that it sends, and a stage of such gates.
-use Prim.Native.Nat.{ℕ, ◌+◌, ◌<◌}
+use Prim.Native.Nat.{ℕ}
 use mathlib.Core.List.{List, [], ◌∷◌}
-use mathlib.Core.Path.{◌≡◌, ap, refl, sym, ◌∙◌}
+use mathlib.Core.Path.{◌≡◌, ap, refl, sym}
 use native.Mathlib.Nat.{add-zero}
-use native.Mathlib.Numerals.{add-one}
 use lib.ListN.{set}
 use lib.Seq.{get_or-drop}
-use Rattle.gate.specs.Places.{InRange, Place, Sent, p0, p1, p2, parts, sharing, three}
+use Rattle.gate.specs.Places.{Place, Sent, p0, p1, p2, parts, sharing, three}
 use Rattle.gate.specs.declared.sharing.Sharing.{Sharing}
 use Rattle.gate.proofs.PlaceLaw.{each}
 use Rattle.circuit.specs.Circuits.{Gate, upto, words}
-use Rattle.circuit.specs.Lent.{ItemsBelow, Long, Ran, Turned}
+use Rattle.circuit.specs.Lent.{Long, Ran, Turned}
 use Rattle.circuit.specs.Sharings.{items_at}
-use Rattle.circuit.proofs.LentLaw.{part_is, part_from, put_back, ran-gate, ran_none, ran-three, rooms}
-use Rattle.circuit.proofs.RunLaw.{length-upto}
-
--- the items that a gate takes are in range
-pub items_in : {m n k : ℕ} {t : Sharing} {t₀ t₁ t₂ : List ℕ} → k < n → t ≡ items_at k t₀ t₁ t₂ → ItemsBelow m n t₀ t₁ t₂ → InRange m t
-items_in {k = k} inside is h = rw is (record { zero = h.zero k inside; one = h.one k inside; two = h.two k inside })
+use Rattle.circuit.proofs.LentLaw.{part_is, part_from, ran-gate, ran_none, rooms}
 
 -- item k is the first of the part from k on
 pub items-next : (k : ℕ) (t₀ t₁ t₂ : List ℕ) → items_at 0 (part_from k t₀) (part_from k t₁) (part_from k t₂) ≡ items_at k t₀ t₁ t₂
@@ -45,14 +39,3 @@ module _ {S : Type 0} where
   pub no_gates : (g : ℕ → Gate S) {s r : Place → S} {T c : Place → List ℕ} → s ≡ r → Ran (upto g 0) s T c r c
   unfolding upto
   no_gates g {s} {T = T} {c = c} e = rw (← e) (ran_none s T c)
-
-  -- one more
-  pub one_more : (g : ℕ → Gate S) (k : ℕ) {s r r' : Place → S} {t : Sharing} {c : Place → List ℕ} {m₀ m₁ m₂ d₀ d₁ d₂ e₀ e₁ e₂ : List ℕ}
-      → t ≡ items_at k m₀ m₁ m₂
-      → Ran (upto g k) s (three m₀ m₁ m₂) c r (three d₀ d₁ d₂)
-      → Long 1 (part_from k d₀) (part_from k d₁) (part_from k d₂)
-      → Turned (g k) r t r' (part_from k d₀) (part_from k d₁) (part_from k d₂) e₀ e₁ e₂
-      → Ran (upto g (k + 1)) s (three m₀ m₁ m₂) c r' (put_back k d₀ d₁ d₂ e₀ e₁ e₂)
-  unfolding upto
-  one_more g k {m₀ = m₀} {m₁ = m₁} {m₂ = m₂} items a room turned =
-      rw (add-one k) (ran-three (length-upto g k) a (turn-ran (items ∙ sym (items-next k m₀ m₁ m₂)) room turned))

@@ -1,6 +1,6 @@
 -- What a list of gates is lent, from its position on.
 -- Used by the code's contracts alone: no theorem's statement speaks of it.
-use Rattle.std.specs.Prelude.{ℕ, ◌+◌, ◌<◌, ◌≤◌, List, ◌≡◌, drop, get_or, length, take}
+use Rattle.std.specs.Prelude.{ℕ, ◌+◌, ◌<◌, List, ◌≡◌, drop, length, take}
 use Rattle.gate.specs.Places.{InRange, Place, Sent, p0, p1, p2, three}
 use Rattle.gate.specs.declared.sharing.Sharing.{Sharing}
 use Rattle.circuit.specs.Circuits.{Circuit, Gate}

@@ -16,14 +16,14 @@ use Rattle.circuit.specs.Bits.{xor}
 use Rattle.circuit.specs.Circuits.{after, ends, heads, starts, words}
 use Rattle.circuit.specs.Compose.{Summing, compose_gates, summing_start}
 use Rattle.circuit.specs.Lent.{Left}
-use Rattle.circuit.specs.Orders.{Quotient, conversion, quotient_bit, quotient_gate, quotient_start, word_bit}
+use Rattle.circuit.specs.Orders.{Quotient, conversion, quotient_bit, quotient_gate, quotient_start}
 use Rattle.circuit.specs.Sharings.{four_times}
 use Rattle.circuit.proofs.LentLaw.{left_of, ran-gate}
 use Rattle.circuit.proofs.LoanLaw.{ran_then}
 use Rattle.circuit.proofs.RunLaw.{drops}
 use Rattle.circuit.proofs.TurnLaw.{stored}
 use Rattle.compose.specs.Quotients.{Carries, Quoted, carried, carry_words, low, quotient_with}
-use Rattle.compose.specs.Sums.{Summed, bits_summed}
+use Rattle.compose.specs.Sums.{bits_summed}
 use Rattle.compose.proofs.ImageLaw.{summed_as, worded}
 use Rattle.compose.proofs.SumLaw.{compose_keeps}
 

@@ -1,7 +1,7 @@
 -- One gate on lent runs: what becomes of the words that it sends.
 use Prim.Native.Nat.{ℕ, ◌<◌}
 use mathlib.Core.List.{List}
-use mathlib.Core.Path.{◌≡◌, ◌∙◌, ap, refl, sym}
+use mathlib.Core.Path.{◌≡◌, ◌∙◌, ap, refl}
 use lib.ListN.{length}
 use Rattle.ring.specs.Modular.{Cong}
 use Rattle.gate.specs.Gates.{gated}

@@ -24,7 +24,7 @@ fn join_share(p: u64, u: u64, v: u64, uv: u64) -> u64
     u + v + 2 * (p - uv)
 }
 
-// The same at each place, z being the words of the gate.
+// The same at each place, z being the words of the gate: three sharings at once, for which there is no zip.
 fn join_shares(p: u64, u: Sharing, v: Sharing, z: Sharing) -> Sharing
     requires room { p < 2 ^ 61 }
     requires left { InRange (2 * p + 2) u }

@@ -1,17 +1,17 @@
 -- What a stage's loop keeps, and stages one after another up to the result.
-use Prim.Native.Nat.{ℕ, ◌+◌, ◌-◌, ◌<◌, ◌≤◌, ◌^◌}
+use Prim.Native.Nat.{ℕ, ◌+◌, ◌-◌, ◌<◌, ◌^◌}
 use mathlib.Core.List.{List, ◌∷◌, ◌++◌}
 use mathlib.Core.Path.{◌≡◌, ap, fun_ext, refl, sym, ◌∙◌}
 use native.Mathlib.Omega.{arith}
 use lib.Bits.{xor_zero_r}
 use lib.ListN.{length, take}
 use Rattle.ring.specs.Rings.{bit_of, modulus}
-use Rattle.gate.specs.Places.{InRange, Place, parts, tabled, three}
+use Rattle.gate.specs.Places.{InRange, Place, parts, tabled}
 use Rattle.gate.specs.declared.sharing.Sharing.{Sharing}
 use Rattle.circuit.specs.Bits.{gather}
 use Rattle.circuit.specs.Circuits.{Gate, upto}
 use Rattle.circuit.specs.Decompose.{Digits, carry_gate, decompose_gates, digit, raising_gate, running_gate, zero_gate}
-use Rattle.circuit.specs.Lent.{Left, Long, Ran}
+use Rattle.circuit.specs.Lent.{Left, Ran}
 use Rattle.circuit.specs.Orders.{decomposition}
 use Rattle.circuit.specs.Sharings.{four_times, zeros}
 use Rattle.circuit.proofs.BitsLaw.{stored_bit}

@@ -35,7 +35,8 @@ fn increment(total: Sharing, l: u64, lent: &mut Lent<'_>) -> Sharing
 fn from_carries(x: Sharing, carries: Sharing, l: u64, lent: &mut Lent<'_>) -> Sharing
     requires count { (1 ≤ l) × (l < 62) }
     requires supplied { Supplied 2 (l + l) lent.old }
-    ensures ended { Sends (l + l) (bits_ended l (upto (λ k. running_gate (k + 1)) l ++ (zero_gate ∷ upto raising_gate (l - 1))) (digits_of x carries zeros zeros) result) lent.old lent.new }
+    ensures ended { let gates = upto (λ k. running_gate (k + 1)) l ++ (zero_gate ∷ upto raising_gate (l - 1)) in
+        Sends (l + l) (bits_ended l gates (digits_of x carries zeros zeros) result) lent.old lent.new }
     ensures below { InRange (2 ^ l) result }
 {
     let running = running_stage(x, carries, l, lent);

@@ -3,6 +3,8 @@ ghost use Rattle.std.specs.Prelude.{◌≡◌, bit_xor};
 
 use std::ops::BitXor;
 
+// How far its sub-shares go, contracts say (`InRange`): in one order they are below 2, p, 2p, 2p + 2 or 4p + 4 in turn, and a type for
+// each would only move that fact from the contracts into a conversion at every step.
 #[derive(Clone, Copy)]
 pub struct Sharing {
     pub s0: u64,

@@ -40,7 +40,8 @@ fn bit_word(x: u64, xf: u64, y: u64, yf: u64, t: u64, tf: u64) -> u64
     (x & (y ^ yf)) ^ (xf & y) ^ t ^ tf
 }
 
-// z_0, z_1 and z_2 modulo p = 2^e - 1.
+// z_0, z_1 and z_2 modulo p = 2^e - 1. Here and below the places are written out, not mapped: each party's word needs its own
+// sub-share and the next one's, of three sharings.
 pub fn ring_words(e: u64, p: u64, x: Sharing, y: Sharing, t: Sharing) -> Sharing
     requires sized { Sized e p }
     requires left { InRange p x }

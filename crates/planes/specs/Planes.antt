@@ -25,6 +25,11 @@ words_at z k = get_or z k 0
 pub record AllBelow (m : ℕ) (a : List ℕ) : Type 0 where
   pub at : (k : ℕ) → k < 64 → get_or a k 0 < m
 
+-- 64 figures below m
+pub record Figures (m : ℕ) (a : List ℕ) : Type 0 where
+  pub long : length a ≡ 64
+  pub below : AllBelow m a
+
 -- no word has a bit from e on
 pub record NoneFrom (e : ℕ) (o : List ℕ) : Type 0 where
   pub at : (j : ℕ) → e ≤ j → j < 64 → get_or o j 0 ≡ 0

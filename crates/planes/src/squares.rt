@@ -3,12 +3,12 @@ ghost use Rattle.std.specs.Prelude.{◌≡◌, ◌+◌, ◌*◌, ◌<◌, ◌≤
 ghost use Rattle.planes.specs.Planes.{AllBelow};
 ghost use Rattle.planes.specs.Squares.{BlocksTransposed, Exchanged, Levelled, Transposed};
 
-// The pairs of rows of one block, h apart, exchanged in the columns of m.
+// The pairs of rows of one block, h apart, exchanged in the columns of m. By index: rows taken as pairs from two chunks are no
+// plainer, and the proof of that form did not close.
 fn exchange(rows: &mut [u64], at: usize, h: usize, m: u64)
     requires width { h ≤ 32 }
     requires room { at + 2 * h ≤ length rows.old }
-    ensures is { Exchanged h m at h rows.old rows.new }
-    ensures long { length rows.new ≡ length rows.old }
+    ensures { Exchanged h m at h rows.old rows.new }
 {
     for l in 0..h {
         let a = rows[at + l];
@@ -23,8 +23,7 @@ fn exchange(rows: &mut [u64], at: usize, h: usize, m: u64)
 fn level(rows: &mut [u64], n: usize, h: usize, m: u64)
     requires width { h ≤ 32 }
     requires room { n * (2 * h) ≤ length rows.old }
-    ensures is { Levelled h m n rows.old rows.new }
-    ensures long { length rows.new ≡ length rows.old }
+    ensures { Levelled h m n rows.old rows.new }
 {
     for q in 0..n {
         exchange(rows, q * (2 * h), h, m);
@@ -36,7 +35,6 @@ pub fn transpose_halves(rows: &mut [u64], n: usize)
     requires count { n ≤ 2 }
     requires room { length rows.old ≡ n * 32 }
     ensures is { BlocksTransposed 32 (n * 32) rows.old rows.new }
-    ensures long { length rows.new ≡ length rows.old }
     ensures words { AllBelow (2 ^ 64) rows.new }
 {
     level(rows, n * 16, 1, 0xaaaaaaaaaaaaaaaa);
@@ -50,7 +48,6 @@ pub fn transpose_halves(rows: &mut [u64], n: usize)
 pub fn transpose(rows: &mut [u64])
     requires { length rows.old ≡ 64 }
     ensures is { Transposed rows.old rows.new }
-    ensures long { length rows.new ≡ length rows.old }
     ensures words { AllBelow (2 ^ 64) rows.new }
 {
     transpose_halves(rows, 2);

@@ -15,7 +15,7 @@ use Rattle.circuit.specs.Circuits.{Circuit, Gate, channelled, ends, result, star
 use Rattle.circuit.specs.Compose.{Summing, compose_gates, summing_start}
 use Rattle.circuit.specs.Decompose.{Digits, decompose_gates, digit, digits_start}
 use Rattle.circuit.specs.Lent.{Left, Ran}
-use Rattle.circuit.specs.Orders.{decomposition, shifting, within, word_bit}
+use Rattle.circuit.specs.Orders.{decomposition, shifting, within}
 use Rattle.circuit.proofs.BitsLaw.{gather_high, gather_split}
 use Rattle.circuit.proofs.LentLaw.{left_of}
 use Rattle.circuit.proofs.LoanLaw.{ran_then}

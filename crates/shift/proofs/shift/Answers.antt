@@ -1,6 +1,6 @@
 -- The decomposition, then its bits from s up.
 use Prim.Native.Nat.{ℕ, ◌+◌, ◌*◌, ◌-◌, ◌≤◌}
-use mathlib.Core.Path.{◌≡◌, ap, sym}
+use mathlib.Core.Path.{◌≡◌, ap}
 use native.Mathlib.Omega.{arith}
 use Rattle.ring.specs.Rings.{width_of}
 use Rattle.circuit.proofs.LoanLaw.{items_later, room_later, room_less, sends_count, sends_then}

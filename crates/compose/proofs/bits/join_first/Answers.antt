@@ -2,7 +2,7 @@
 use mathlib.Core.Path.{◌≡◌}
 use native.Mathlib.Omega.{arith}
 use Rattle.std.proofs.Common.{rules}
-use Rattle.ring.proofs.RangeLaw.{sized_gt, sized_lt}
+use Rattle.ring.proofs.RangeLaw.{sized_lt}
 use Rattle.gate.specs.Gates.{gated}
 use Rattle.gate.specs.Places.{p0, p1, p2, parts, sharing, three}
 use Rattle.circuit.specs.Loans.{items_next}

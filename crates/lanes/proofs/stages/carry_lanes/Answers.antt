@@ -37,8 +37,3 @@ loop-j-preserved c =
     let room = room_later head.j 1 (omega (arith, c.loop-j-test.true)) c.requires.room head.invariant in
     sends_then head.invariant (one_sent c.items-t.ensures room c.send.ensures)
     (λ ran one kept. each_more carry_gate head.j ran (one.on takes) kept)
-
-pub returns : goal.returns
-returns c =
-    let same : c.loop-j.j ≡ c.args.n = omega (arith, c.loop-j-test.false) in
-    rw same at c.loop-j.invariant

@@ -32,13 +32,11 @@ loop-j-preserved c =
       (λ e far none. none_kept head.o c.bitxor.result (omega (arith, c.loop-j-test.true, far)) now.ensures.is (head.invariant.1 e far none)),
     )
 
-pub returns : goal.returns
-returns c =
+pub returns-clause-is : goal.returns-clause-is
+returns-clause-is c =
     let head = c.loop-j in
     let last = c.store-2 in
-    let same : head.j ≡ c.args.n = omega (arith, c.loop-j-test.false) in record {
-      is = sends_of (rw same at head.invariant.0)
-          (rising_all head.o last.new.self head.carry c.at-top.result c.requires.count last.ensures.whole c.at-top.ensures.is
-          (last.ensures.is ∙ ap (with_planes head.o c.args.n) c.bitxor-2.ensures));
-      none = (λ e far none. none_kept head.o c.bitxor-2.result far last.ensures.is (head.invariant.1 e far none));
-    }
+    let same : head.j ≡ c.args.n = omega (arith, c.loop-j-test.false) in
+    sends_of (rw same at head.invariant.0)
+    (rising_all head.o last.new.self head.carry c.at-top.result c.requires.count last.ensures.whole c.at-top.ensures.is
+    (last.ensures.is ∙ ap (with_planes head.o c.args.n) c.bitxor-2.ensures))
