@@ -46,7 +46,7 @@ fn say(rt: HostRuntime, what: impl Display + Drop) {
     let _ = eprintln!(rt; "draw: {what}");
 }
 
-// Reads until the run is full or the input ends, and answers how many bytes.
+// Reads until the run is full or the input ends, and answers how many bytes: n moves on by what each read gave.
 fn read_raw(rt: HostRuntime, raw: &mut [u8]) -> io::Result<usize>
     ensures { IfOk result (λ n. n ≤ length raw.new) }
 {

@@ -13,7 +13,8 @@ use Rattle.line.specs.Lines.{fits, is_digit, number_from, number_of}
 use Rattle.line.specs.Readings.{comma_on, digit_on, fields_on, read, read_on}
 use Rattle.line.specs.declared.readings.Fields.{Fields}
 use Rattle.line.specs.declared.readings.Reading.{Reading}
-use Rattle.line.proofs.FieldLaw.{Fit, fit_more, fit_none, larger, left_true, longer, number_fit, number_none, number_unfit, right_true, split, unfit_digit, unfit_more, unfit_other}
+use Rattle.line.proofs.FieldLaw.{Fit, fit_more, fit_none, left_true, number_fit, number_none, number_unfit, right_true, split, unfit_digit, unfit_more, unfit_other}
+use Rattle.line.proofs.ReadLaw.{digit-held, fields, reading}
 use Rattle.drawing.specs.Asks.{number_in, only_number}
 
 -- a comma or another byte was read, so there is no number
@@ -41,9 +42,6 @@ lost_byte f b h =
     (λ e. rw e (lost_comma f))
     (λ e. rw e (split (is_digit b) (λ d. rw d (lost_digit f (b - 48) h)) (λ d. rw d tt)))
 
-abbrev reading : Bool → Option Fields → Reading
-reading s o = record { fields = o; seen = s }
-
 lost_on : (bs : List ℕ) (s : Bool) (o : Option Fields) → Lost o → number_in (read_on (reading s o) bs) ≡ None
 unfolding number_in
 lost_on [] s o h = lost_none o h
@@ -52,18 +50,13 @@ lost_on (b ∷ bs) s (Some f) h = lost_on bs true (fields_on f b) (lost_byte f b
 
 -- a first field of digits that fit so far
 abbrev field : List ℕ → Fields
-field f = record { ended = 0 ∷ 0 ∷ 0 ∷ []; commas = 0; digits = length f; value = number_from 0 f }
+field f = fields [] f
 
 held_says : (f : List ℕ) → Fit f → only_number (field f) ≡ number_of f
 held_says f fit =
     split (eqb (length f) 0)
     (λ e. rw (number_none f (eqb-true _ _ e), e))
     (λ e. rw (number_fit fit (eqb-false _ _ e), e))
-
-grows : (f : List ℕ) (b : ℕ) → (ltb (length f) 20 && ltb (number_from 0 f * 10 + (b - 48)) (2 ^ 64)) ≡ true
-    → digit_on (field f) (b - 48) ≡ Some (field (f ++ (b ∷ [])))
-unfolding digit_on
-grows f b e = rw (e, longer, larger)
 
 too_large : (f : List ℕ) (b : ℕ) → (ltb (length f) 20 && ltb (number_from 0 f * 10 + (b - 48)) (2 ^ 64)) ≡ false
     → digit_on (field f) (b - 48) ≡ None
@@ -90,7 +83,7 @@ module _ (bs : List ℕ) (onward : Says bs) (f : List ℕ) (b : ℕ) (fit : Fit 
       let room : Bool = ltb (length f) 20 in
       let below : Bool = ltb (number_from 0 f * 10 + (b - 48)) (2 ^ 64) in
       split (room && below)
-      (λ e. rw (grows f b e, behind) (onward true (f ++ (b ∷ []))
+      (λ e. rw (digit-held [] f b e, behind) (onward true (f ++ (b ∷ []))
       (fit_more f b fit d (ltb-true _ _ (left_true room below e)) (ltb-true _ _ (right_true room below e)))))
       (λ e. rw (too_large f b e) (ends None tt (unfit_digit f b e)))
 

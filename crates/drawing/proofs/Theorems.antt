@@ -1,6 +1,6 @@
+-- The lines printed, read by the job program's definition.
 use Rattle.std.specs.Prelude.{Some, None, Option}
 use Rattle.ring.specs.declared.rings.Ring.{Ring}
--- The lines printed, read by the job program's definition.
 use Prim.Native.Nat.{ℕ, zero, suc, ◌+◌, ◌*◌, ◌<◌, ◌^◌}
 use mathlib.Core.Bool.{Bool, true, false, not, ◌&&◌}
 use mathlib.Core.List.{List, [], ◌∷◌, ◌++◌, append_assoc, append-nil, map}

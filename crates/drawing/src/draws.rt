@@ -42,6 +42,7 @@ pub fn draw(code: u64, n: usize, kind: Kind, raw: &[u8], out: &mut [u8]) -> Resu
     ensures lines { Drew (drawn code n kind raw.now) out.old out.new result }
     ensures short { IfOk result (λ len. len ≤ 43008) }
 {
+    // Arrays with a count beside them: a run to be prepared is lent as a slice, at its full length from the start.
     let mut words = [0; MOST_WORDS];
     let mut run = [0; MOST_ITEMS];
     let count = raw_words(raw, &mut words);

@@ -65,6 +65,7 @@ pub fn put_lines(kind: Kind, items: &[u64], n: usize, out: &mut [u8]) -> usize
     ensures short { result ≤ 84 * n }
 {
     let mut at = 0;
+    // By number, since a line's items are those of its number in the tape.
     for k in 0..n {
         at = put_line(kind, items, k, out, at);
     }

@@ -1,6 +1,6 @@
+-- The numbers that a line gives are below 2^64.
 use Rattle.std.specs.Prelude.{Some, None, Option}
 use Rattle.machine.specs.declared.orders.Order.{Order as AnOrder}
--- The numbers that a line gives are below 2^64.
 use Prim.Native.Nat.{ℕ, zero, suc, ◌<◌, ◌^◌}
 use mathlib.Core.List.{List, [], ◌∷◌}
 use mathlib.Core.Bool.{◌&&◌}

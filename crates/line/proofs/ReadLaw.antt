@@ -32,17 +32,17 @@ use Rattle.line.proofs.FieldLaw.{
 }
 
 -- three places: the numbers of the ended fields, the newest first
-abbrev stored : List ℕ → List ℕ
+abbrev pub stored : List ℕ → List ℕ
 stored [] = 0 ∷ 0 ∷ 0 ∷ []
 stored (a ∷ []) = a ∷ 0 ∷ 0 ∷ []
 stored (a ∷ b ∷ []) = b ∷ a ∷ 0 ∷ []
 stored (a ∷ b ∷ c ∷ ns) = c ∷ b ∷ a ∷ []
 
 -- the fields with the numbers of some, and part of the next
-abbrev fields : List ℕ → List ℕ → Fields
+abbrev pub fields : List ℕ → List ℕ → Fields
 fields done f = record { ended = stored done; commas = length done; digits = length f; value = number_from 0 f }
 
-abbrev reading : Bool → Option Fields → Reading
+abbrev pub reading : Bool → Option Fields → Reading
 reading s o = record { fields = o; seen = s }
 
 -- what the line says, by those numbers and the others
@@ -89,7 +89,7 @@ ended_says (a ∷ b ∷ []) f few e = rw e
 ended_says (a ∷ b ∷ c ∷ []) f few e = rw e
 ended_says (a ∷ b ∷ c ∷ d ∷ ns) f few e = absurd (omega arith)
 
-digit-held : (done f : List ℕ) (b : ℕ) → (ltb (length f) 20 && ltb (number_from 0 f * 10 + (b - 48)) (2 ^ 64)) ≡ true
+pub digit-held : (done f : List ℕ) (b : ℕ) → (ltb (length f) 20 && ltb (number_from 0 f * 10 + (b - 48)) (2 ^ 64)) ≡ true
     → digit_on (fields done f) (b - 48) ≡ Some (fields done (f ++ (b ∷ [])))
 unfolding digit_on
 digit-held done f b e = rw (e, longer, larger)

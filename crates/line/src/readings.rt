@@ -53,9 +53,9 @@ impl Fields {
         if self.digits == 0 || self.ended.len() <= self.commas {
             return None;
         }
-        let [third, second, _] = self.ended;
+        let [newest, before, _] = self.ended;
         Some(Fields {
-            ended: [self.value, third, second],
+            ended: [self.value, newest, before],
             commas: self.commas + 1,
             digits: 0,
             value: 0,
@@ -95,13 +95,13 @@ impl Fields {
     fn command(self) -> Command
         ensures { result ≡ said_by self }
     {
-        let [third, second, first] = self.ended;
+        let [newest, second, first] = self.ended;
         if self.digits == 0 {
             return Command::Unreadable;
         }
         match self.commas {
-            1 => with_one(third, self.value),
-            3 => with_three(first, second, third, self.value),
+            1 => with_one(newest, self.value),
+            3 => with_three(first, second, newest, self.value),
             _ => Command::Unreadable,
         }
     }

@@ -6,11 +6,10 @@ use mathlib.Core.Bool.{Bool, false, not, true, ◌&&◌}
 use mathlib.Core.List.{List, [], ◌∷◌, ◌++◌}
 use mathlib.Core.Path.{◌≡◌, refl, ap, ap₂, sym, ◌∙◌}
 use borrow.Author.Tests.{not-false}
-use lib.Dec.{T, eqb, leb}
+use lib.Dec.{T, leb}
 use Rattle.ring.specs.Rings.{modulus, modulus_of, ring_of, width_of}
 use Rattle.ring.specs.declared.rings.Ring.{Ring}
 use Rattle.ring.proofs.RangeLaw.{width_named}
-use Rattle.gate.specs.Places.{InRange}
 use Rattle.gate.specs.declared.sharing.Sharing.{Sharing}
 use Rattle.circuit.specs.Circuits.{ends, result}
 use Rattle.circuit.specs.Orders.{addition, composition, conversion, decomposition, multiplication, scaling, shifting}

@@ -33,6 +33,7 @@ pub fn begin(sound: bool, names: &[u64]) -> Result<(), Refusal>
 }
 
 // Checks 3 and 4 of a source that must be a number: its ring and its sub-shares.
+#[tactic(auto, unfolding(machine::specs::Checks::first_met))]
 fn a_number(x: Register) -> Result<(Ring, Sharing), Refusal>
     ensures refusal { verdict_of result ≡ first_met (a_number (kind_of x)) }
     ensures found { IfOk result (λ n. x ≡ Register.Number n.0 n.1) }
@@ -45,6 +46,7 @@ fn a_number(x: Register) -> Result<(Ring, Sharing), Refusal>
 }
 
 // Checks 3 and 4 of a source that must be bits: how many, and its sub-shares.
+#[tactic(auto, unfolding(machine::specs::Checks::first_met))]
 fn some_bits(x: Register) -> Result<(u64, Sharing), Refusal>
     ensures refusal { verdict_of result ≡ first_met (some_bits (kind_of x)) }
     ensures found { IfOk result (λ n. x ≡ Register.Bits n.0 n.1) }

@@ -16,7 +16,7 @@ use Rattle.session.proofs.ReplyLaw.{wrote_none, wrote_same}
 
 module _ (w : Standing) (buf : List ℕ) (i stop : ℕ) (r : Reading) (read : r ≡ read_on w.reading (line_in (drop i buf))) (there : stop ≡ i + length (line_in (drop i buf))) where
   pub stop_within : i < length buf → stop ≤ length buf
-  stop_within h = omega (arith, there, line-within (drop i buf), length-drop i buf)
+  stop_within h = grind (arith, line-within, length-drop)
 
   -- no line ends in the rest of the chunk
   pub advanced_open : (at : ℕ) (out : List ℕ) → length buf ≤ stop → Advanced w (drop i buf) (read_to w r) (drop stop buf) at out out at

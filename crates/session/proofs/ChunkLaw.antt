@@ -4,7 +4,6 @@ use mathlib.Core.Bool.{false, true}
 use mathlib.Core.List.{List, [], ◌∷◌, ◌++◌}
 use mathlib.Core.Path.{◌≡◌, ap, refl, ◌∙◌}
 use native.Mathlib.Omega.{arith}
-use borrow.Author.Tests.{eqb-true}
 use lib.Dec.{eqb}
 use lib.ListN.{drop, drop_of_length-le, length}
 use Rattle.line.specs.Lines.{line_in}
@@ -48,14 +47,7 @@ line_read w (b ∷ bs) = go (line_read (read_to w (byte_on w.reading b)) bs)
 line-ends : (xs : List ℕ) → length (line_in xs) < length xs → drop (length (line_in xs)) xs ≡ 10 ∷ drop (suc (length (line_in xs))) xs
 unfolding line_in
 line-ends [] h = absurd (omega arith)
-line-ends (b ∷ bs) h = go h (line-ends bs)
-  where
-    go : length (line_in (b ∷ bs)) < length (b ∷ bs)
-        → (length (line_in bs) < length bs → drop (length (line_in bs)) bs ≡ 10 ∷ drop (suc (length (line_in bs))) bs)
-        → drop (length (line_in (b ∷ bs))) (b ∷ bs) ≡ 10 ∷ drop (suc (length (line_in (b ∷ bs)))) (b ∷ bs)
-    go h ih =
-        split (eqb b 10) (λ e. rw (ended b bs e) (ap (λ (x : ℕ). x ∷ bs) (eqb-true b 10 e)))
-        (λ e. rw (longer b bs e) (ih (omega (arith, rw (longer b bs e) at h))))
+line-ends (b ∷ bs) h = grind (arith, line-ends bs)
 
 -- a line that ends in the chunk, and what it prints
 pub line_closed : (w : Standing) (xs : List ℕ) → length (line_in xs) < length xs
@@ -81,7 +73,4 @@ line_open w xs h =
 pub line-within : (xs : List ℕ) → length (line_in xs) ≤ length xs
 unfolding line_in
 line-within [] = omega arith
-line-within (b ∷ bs) = go (line-within bs)
-  where
-    go : length (line_in bs) ≤ length bs → length (line_in (b ∷ bs)) ≤ length (b ∷ bs)
-    go ih = split (eqb b 10) (λ e. rw (ended b bs e) (omega arith)) (λ e. rw (longer b bs e) (omega arith))
+line-within (b ∷ bs) = grind (arith, line-within bs)

@@ -2,12 +2,11 @@
 use Prim.Native.Nat.{ℕ, suc, ◌+◌, ◌≤◌, ◌<◌, ◌^◌}
 use mathlib.Core.Bool.{false, true}
 use mathlib.Core.List.{List, [], ◌∷◌, ◌++◌, append_assoc, append-nil, flatten, map}
-use mathlib.Core.Path.{◌≡◌, ap, refl, sym, ◌∙◌}
+use mathlib.Core.Path.{◌≡◌, ap, refl, ◌∙◌}
 use native.Mathlib.Omega.{arith}
-use borrow.Author.Tests.{ltb-false, ltb-true}
 use lib.Dec.{ltb}
-use lib.ListN.{drop, length, length-append, length-take, take, take-append-drop}
-use lib.Seq.{get_or-take, take_all, take-append-le, take-append_seam, take-take}
+use lib.ListN.{length, length-append, length-take, take}
+use lib.Seq.{get_or-take, take_all, take-append-le, take-take}
 use Rattle.gate.specs.Places.{Place, p0, p1, p2, tabled, three}
 use Rattle.gate.proofs.PlaceLaw.{each, tabled-at}
 use Rattle.machine.specs.Registers.{empty_machine}
@@ -35,23 +34,18 @@ added f (k ∷ ks) js = rw (added f ks js, append_assoc) refl
 
 -- "At most 512": the first n, of which later ones take nothing away
 first_kept : (n : ℕ) (xs ys : List ℕ) → take (length (take n xs)) (take n (xs ++ ys)) ≡ take n xs
-first_kept n xs ys =
-    let few : length (take n xs) ≤ n = omega (arith, length-take n xs) in
-    take-take (length (take n xs)) n (xs ++ ys) few
-    ∙ ap (λ (l : List ℕ). take (length (take n xs)) (l ++ ys)) (sym (take-append-drop n xs))
-    ∙ ap (take (length (take n xs))) (append_assoc (take n xs) (drop n xs) ys)
-    ∙ take-append_seam (take n xs) (drop n xs ++ ys)
+first_kept n xs ys = grind (arith, length-take, take-take, take-append-le, take_all)
 
 -- one more, where there is room
 one_more : (n : ℕ) (xs : List ℕ) (x : ℕ) → length xs < n → take n (xs ++ (x ∷ [])) ≡ take n xs ++ (x ∷ [])
-one_more n xs x h = rw (take_all n xs (omega arith)) (take_all n (xs ++ (x ∷ [])) (omega (arith, length-append xs (x ∷ []))))
+one_more n xs x h = grind (arith, take_all, length-append)
 
 module _ (n : ℕ) (xs : List ℕ) where
   room : ltb (length (take n xs)) n ≡ true → length xs < n
-  room e = omega (arith, length-take n xs, ltb-true (length (take n xs)) n e)
+  room e = grind (arith, length-take)
 
   no_room : ltb (length (take n xs)) n ≡ false → n ≤ length xs
-  no_room e = omega (arith, length-take n xs, ltb-false (length (take n xs)) n e)
+  no_room e = grind (arith, length-take)
 
 -- the three mask tapes have the same length
 even : (i : Place) (ks : List Command) → length (flatten (map (mask_of i) ks)) ≡ length (flatten (map (mask_of p0) ks))
@@ -205,7 +199,7 @@ words-taken : (n : ℕ) (xs : List ℕ) → Below xs → Words (length (take n x
 words-taken n xs h =
     record {
       long = refl;
-      below = λ j few. let at : j < n = omega (arith, length-take n xs) in rw (get_or-take n xs j 0 at) (h j);
+      below = λ j few. grind (arith, h j, length-take, get_or-take);
     }
 
 pub run-read : theorem.RunRead

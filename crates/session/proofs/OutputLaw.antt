@@ -47,13 +47,12 @@ module _ (s : State) (n : ℕ) where
   late_output : million ≤ n → (bytes : List ℕ) → Prints bytes
   unfolding output_from
   late_output late bytes =
-      let none : million - n ≡ 0 = omega arith in
       let stopped = stops before late bytes in
-      rw (none, stopped.0, stopped.1) refl
+      grind (arith, stopped.0, stopped.1)
 
   no_output : Prints []
   unfolding printed_by after_bytes printed_last lines_of output_from
-  no_output = rw take-nil refl
+  no_output = grind arith
 
 -- the bytes behind those of the first line
 abbrev behind : List ℕ → List ℕ

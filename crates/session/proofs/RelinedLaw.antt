@@ -4,7 +4,7 @@ use mathlib.Core.List.{List, [], ◌∷◌, ◌++◌, flatten, map}
 use mathlib.Core.Path.{◌≡◌, ap, ap₂, fun_ext, refl, subst, subst₂, sym, ◌∙◌}
 use native.Mathlib.Omega.{arith}
 use lib.ListN.{drop, drop_of_length-le, get_or, length, length-drop, length-take, take}
-use lib.Seq.{drop-cons, take_all}
+use lib.Seq.{drop-cons}
 use Rattle.gate.specs.Places.{Place, next, p0, p1, p2, three}
 use Rattle.gate.proofs.PlaceLaw.{tabled-at, tabled_is}
 use Rattle.view.specs.Views.{around, lacked_by}
@@ -48,8 +48,7 @@ entry_same o e f = rw (e, f) refl
 
 -- a tape from item n on: no line left
 none_taken : (N n : ℕ) (X : List ℕ) → length (drop n X) ≡ length (take {A = ℕ} N []) → take N [] ≡ drop n X
-none_taken N n X long =
-    take_all N [] (omega arith) ∙ sym (drop_of_length-le X {i = n} (omega (arith, length-drop n X, length-take {A = ℕ} N [])))
+none_taken N n X long = grind (arith, length-drop, length-take, drop_of_length-le)
 
 -- and one more line, behind which the new items are X's
 one-taken : (N n : ℕ) (X : List ℕ) (t : ℕ) (old new : List ℕ) → length (drop n X) ≡ length (take N (t ∷ old))

@@ -1,6 +1,5 @@
 -- What an order finds of a record is what its function asks, and its change is the step.
 use Rattle.std.specs.Prelude.{Result, Ok, Err}
-use Rattle.std.specs.Result.{IsErrAnd}
 use Prim.Native.Nat.{ℕ}
 use mathlib.Core.Bool.{Bool}
 use mathlib.Core.List.{List}
@@ -61,6 +60,10 @@ pub stepped : {o : Order} {m : Machine} {d : ℕ} {t : Result Prepared Refusal} 
     → Prepares o m d t → Changes m k l (attempted t d m T c) → Changes m k l (step o m (record { masks = T; dealer = D }) c)
 stepped D T c p q = record { fits = q.fits; is = q.is ∙ sym (p.is D T c) }
 
+-- with what was prepared of it
+pub prepared : {o : Order} {m : Machine} {d : ℕ} {t u : Result Prepared Refusal} → t ≡ u → Prepares o m d t → Prepares o m d u
+prepared e p = rw e at p
+
 -- or refused by the record
 pub declined : {o : Order} {m : Machine} {d : ℕ} (w : Refusal) (D : List ℕ) (T c : Place → List ℕ)
     → Prepares o m d (Err w) → Changes m (Err w) c (step o m (record { masks = T; dealer = D }) c)
@@ -77,4 +80,4 @@ pub written : {ws : List ℕ} {a : Result Done Refusal} {k : Result Change Refus
     → a ≡ answer_of k → Says ws (changed k m) → Changes m k c x → Reports ws a c x
 written {ws} {a} {k} {m} {c} e says p =
     subst (Reports ws a c) p.is
-    (record { words = says; is = ap (λ (a : Answer). reported (record { machine = changed k m; answer = a }) c) e })
+    (record { words = says; is = ap (λ (a : Result Done Refusal). reported (record { machine = changed k m; answer = a }) c) e })

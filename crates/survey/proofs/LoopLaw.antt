@@ -3,7 +3,7 @@ use Prim.Native.Nat.{ℕ, zero, suc, ◌+◌, ◌≤◌, ◌<◌}
 use mathlib.Core.Bool.{false, true}
 use mathlib.Core.List.{List, [], ◌∷◌, ◌++◌, append_assoc, append-nil, flatten}
 use mathlib.Core.Logic.{inl, inr}
-use mathlib.Core.Path.{◌≡◌, ap, refl, ◌∙◌}
+use mathlib.Core.Path.{◌≡◌, ap, ◌∙◌}
 use native.Mathlib.Omega.{arith}
 use lib.ListN.{length, length-append, length-take}
 use Rattle.std.specs.Prelude.{Err, Ok}
@@ -29,16 +29,16 @@ pub record Going (v : Standing) (turns : ℕ) : Type 0 where
 pub flatten_last : (chunks : List (List ℕ)) (last : List ℕ) → flatten (chunks ++ (last ∷ [])) ≡ flatten chunks ++ last
 unfolding flatten
 flatten_last [] last = append-nil last
-flatten_last (c ∷ cs) last = rw (flatten_last cs last, append_assoc) refl
+flatten_last (c ∷ cs) last = grind (arith, flatten_last cs last, append_assoc)
 
 length_last : (chunks : List (List ℕ)) (last : List ℕ) → length (flatten (chunks ++ (last ∷ []))) ≡ length (flatten chunks) + length last
 length_last chunks last = ap length (flatten_last chunks last) ∙ length-append (flatten chunks) last
 
 -- a read that brings bytes into a buffer brings one at least
 some_read : (got : Answered) (lines : ℕ) (buf : List ℕ) → 0 < length buf → goes_on got lines ≡ true → 0 < length (bytes_read got buf)
-some_read (Ok zero) lines buf h goes = let never : ◌≡◌ {A = ℕ} 0 1 = cc (goes) in absurd (omega arith)
+some_read (Ok zero) lines buf h goes = grind (arith, goes)
 some_read (Ok (suc n)) lines buf h goes = omega (arith, length-take (suc n) buf)
-some_read (Err f) lines buf h goes = let never : ◌≡◌ {A = ℕ} 0 1 = cc (goes) in absurd (omega arith)
+some_read (Err f) lines buf h goes = grind (arith, goes)
 
 pub going : {v : Standing} {got : Answered} {buf : List ℕ} {turns : ℕ} → Reading v got buf turns → Going v turns
 unfolding flatten

@@ -5,7 +5,6 @@ use mathlib.Core.List.{List, [], ◌∷◌, ◌++◌, append-nil, flatten}
 use mathlib.Core.Logic.{◌⊎◌, inl, inr, ⊎_elim}
 use mathlib.Core.Path.{◌≡◌, ap, refl, subst, sym, ◌∙◌}
 use native.Mathlib.Omega.{arith}
-use borrow.Author.Tests.{lt-ltb, ltb-false}
 use Rattle.std.specs.Prelude.{Err, Ok}
 use Rattle.machine.specs.Registers.{million}
 use Rattle.session.specs.Outputs.{output}
@@ -29,8 +28,8 @@ after_chunks (next {cs = cs} got buf reads goes) = after_last cs (bytes_read got
 -- no other chunk behind one that could be read: its read answered 0, or line 1,000,000 has ended
 last-read : (got : Answered) (lines : ℕ) → able got ≡ true → goes_on got lines ≡ false → (got ≡ Ok 0) ⊎ (million ≤ lines)
 last-read (Ok zero) lines fine over = inl refl
-last-read (Ok (suc n)) lines fine over = inr (ltb-false lines million (rw (lt-ltb 0 (suc n) (omega arith)) at over))
-last-read (Err f) lines fine over = let never : ◌≡◌ {A = ℕ} 0 1 = cc (fine) in absurd (omega arith)
+last-read (Ok (suc n)) lines fine over = inr (grind (arith, over))
+last-read (Err f) lines fine over = grind (arith, fine)
 
 pub prints : theorem.Prints
 prints v got buf rest r over fine ends = ⊎_elim at_end (λ late. (whole all).1 rest (stops late)) (last-read got v.lines fine over)

@@ -1,4 +1,4 @@
-use mathlib.Core.Path.{ap, sym}
+use mathlib.Core.Path.{ap}
 use Rattle.order.proofs.PrepareLaw.{good, one_fine, one_refused, own_refused, scale_one, scale_prepares, source_at}
 use Rattle.order.proofs.StepLaw.{told}
 use mathlib.Core.List.{[]}

@@ -1,5 +1,0 @@
-use Rattle.order.proofs.tasks.costing.Goals as goal
-
-pub returns : goal.returns
-returns c =
-    rw c.modulus.ensures
