@@ -1,21 +1,17 @@
 -- Order 1: its checks as the code makes them, and its step.
-use Rattle.std.specs.Prelude.{Some, None, Option, Ok, Err}
-use Prim.Native.Nat.{ℕ, ◌+◌, ◌<◌, ◌≤◌}
-use mathlib.Core.Bool.{Bool, false, not, true, ◌||◌}
+use Rattle.std.specs.Prelude.{Some, Option, Ok, Err}
+use Prim.Native.Nat.{ℕ}
+use mathlib.Core.Bool.{Bool}
 use mathlib.Core.List.{List, [], ◌∷◌, ◌++◌}
-use mathlib.Core.Path.{◌≡◌, refl, ap, sym, ◌∙◌}
+use mathlib.Core.Path.{◌≡◌, ap, sym, ◌∙◌}
 use native.Mathlib.Omega.{arith}
-use borrow.Author.Tests.{le-leb, le-ltb, leb-false, lt-leb, lt-ltb}
-use lib.Dec.{leb, ltb}
-use lib.ListN.{get_or-eq_default, drop, get_or, length}
-use lib.Seq.{get_or-drop}
-use Rattle.ring.specs.Modular.{diff}
+use lib.ListN.{drop, get_or, length}
 use Rattle.ring.specs.Rings.{modulus, modulus_of, ring_of}
 use Rattle.ring.specs.declared.rings.Ring.{Ring}
 use Rattle.ring.proofs.RangeLaw.{width_named}
 use Rattle.gate.specs.Places.{Place}
-use Rattle.machine.specs.Checks.{Tapes, check, first_met, no_ring, public_checks}
-use Rattle.machine.specs.Registers.{million, register_of}
+use Rattle.machine.specs.Checks.{Tapes, first_met, no_ring, public_checks}
+use Rattle.machine.specs.Registers.{register_of}
 use Rattle.machine.specs.Step.{checks, dealt, dealt_shares, step, stored}
 use Rattle.machine.specs.Work.{number_kind}
 use Rattle.machine.specs.Answers.{number_of}
@@ -23,7 +19,7 @@ use Rattle.machine.specs.declared.answers.Refusal.{Refusal}
 use Rattle.machine.specs.declared.orders.Order.TheVariants.{Deal}
 use Rattle.machine.specs.declared.registers.Machine.{Machine}
 use Rattle.machine.specs.declared.registers.Register.{Register}
-use Rattle.machine.specs.declared.registers.Register.TheVariants.{Empty, Number}
+use Rattle.machine.specs.declared.registers.Register.TheVariants.{Number}
 use Rattle.order.specs.Changes.{Changes}
 use Rattle.order.specs.declared.changes.Change.TheVariants as change
 use Rattle.order.specs.Attempts.{begin_checks}

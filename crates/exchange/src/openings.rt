@@ -66,14 +66,7 @@ pub fn open(
     ensures { (m : Machine) → s ≡ sources_in m (Order.Open x) → at ≡ m.channels_at → (T : Tapes)
         → Changes m result (at_exit c0 c1 c2) (step (Order.Open x) m T (at_entry_mut c0 c1 c2)) }
 {
-    open_why(
-        s,
-        x,
-        at,
-        c0.len() as u64,
-        c1.len() as u64,
-        c2.len() as u64,
-    )?;
+    open_why(s, x, at, c0.len() as u64, c1.len() as u64, c2.len() as u64)?;
     let value = s.a.value();
     open_words(s.a.shares(), at, c0, c1, c2);
     Ok(Change::Opened { value })

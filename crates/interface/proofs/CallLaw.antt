@@ -1,7 +1,7 @@
 -- When a call is malformed, and what it leaves otherwise.
 use Rattle.std.specs.Prelude.{Some, None, Option, Result}
 use Prim.Native.Nat.{ℕ}
-use mathlib.Core.Bool.{Bool, cond, false, not, true}
+use mathlib.Core.Bool.{Bool, cond, false, true}
 use mathlib.Core.List.{List, [], ◌∷◌}
 use mathlib.Core.Path.{◌≡◌, ap, ap₂, refl, ◌∙◌}
 use native.Mathlib.Omega.{arith}

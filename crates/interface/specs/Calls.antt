@@ -6,6 +6,7 @@ use Rattle.machine.specs.Checks.{Tapes}
 use Rattle.machine.specs.Step.{Outcome, step}
 use Rattle.tape.specs.Tapes as prepared
 use Rattle.batch.specs.Batch as batches
+use Rattle.machine.specs.declared.registers.Machine.{Machine}
 use Rattle.layout.specs.Layout.{machine_of, machine_words, order_of}
 
 -- the number returned for words in no layout: 02's refusals 14 to 22 stay free

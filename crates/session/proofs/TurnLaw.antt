@@ -10,7 +10,8 @@ use Rattle.machine.specs.Checks.{Tapes}
 use Rattle.machine.specs.Step as defined
 use Rattle.machine.specs.Step.{step}
 use Rattle.machine.specs.declared.orders.Order.{Order}
-use Rattle.machine.specs.declared.answers.Answer.{Answer}
+use Rattle.machine.specs.declared.answers.Done.{Done}
+use Rattle.machine.specs.declared.answers.Refusal.{Refusal}
 use Rattle.machine.specs.declared.registers.Machine.{Machine}
 use Rattle.order.specs.Answers.{refusal_of, value_of}
 use Rattle.step.specs.Words.{Reports}

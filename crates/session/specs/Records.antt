@@ -1,17 +1,17 @@
 -- The record in words, as a job keeps it.
-use Rattle.std.specs.Prelude.{ℕ, true, List, ◌≡◌, replicate}
+use Rattle.std.specs.Prelude.{ℕ, true, List, None, Option, Some, ◌≡◌, replicate}
 use Rattle.machine.specs.Registers.{empty_machine, sound}
 use Rattle.machine.specs.declared.registers.Machine.{Machine}
-use Rattle.layout.specs.Layout.{MachineFound, Says, found, machine_of, none}
+use Rattle.layout.specs.Layout.{Says, machine_of}
 
 -- the record's words before the first line
 abbrev pub empty_words : List ℕ
 empty_words = replicate 83 0
 
 -- the record that words say; where they say none, the empty machine stands for it
-abbrev pub machine_else : MachineFound → Machine
-machine_else (found m) = m
-machine_else none = empty_machine
+abbrev pub machine_else : Option Machine → Machine
+machine_else (Some m) = m
+machine_else None = empty_machine
 
 unfoldable pub machine_in : List ℕ → Machine
 machine_in ws = machine_else (machine_of ws)

@@ -7,17 +7,14 @@ ghost use Rattle.session.specs.Outputs.{ordered, state, turned};
 
 use crate::replies::Reply;
 use crate::tapes::TapeLines;
+use layout::{CHANNELS_AT, MASKS_AT};
 use machine::Order;
 use order::{refusal, value};
 use std::marker::Model;
 use step::step_words;
 
-// How many words a record has, and where its positions on mask tapes and channels stand in them.
+// How many words a record has.
 const WORDS: usize = 83;
-
-const MASKS_AT: usize = 80;
-
-const CHANNELS_AT: usize = 81;
 
 // The record in words, seen as the record that they say.
 #[derive(Drop)]

@@ -1,14 +1,12 @@
 -- A deal's own checks, one after another.
-use Rattle.std.specs.Prelude.{Some}
 use Prim.Native.Nat.{ℕ}
-use mathlib.Core.Bool.{Bool, false, true, ◌||◌}
-use mathlib.Core.List.{[], ◌∷◌}
+use mathlib.Core.Bool.{Bool, ◌||◌}
+use mathlib.Core.List.{[]}
 use mathlib.Core.Path.{◌≡◌, ap, ap₂, sym, ◌∙◌}
 use borrow.Author.Tests.{le-leb, lt-leb}
 use lib.Dec.{leb}
-use lib.ListN.{drop, get_or, length}
-use Rattle.ring.specs.Rings.{ring_of}
-use Rattle.machine.specs.Checks.{check, first_met, no_ring}
+use lib.ListN.{drop, length}
+use Rattle.machine.specs.Checks.{no_ring}
 use Rattle.order.proofs.CheckLaw.{all_passed, fine_first, met, passed, passed_on, refused-first}
 use Rattle.order.proofs.PrepareLaw.{parsed, unparsed}
 use Rattle.exchange.specs.Exchanges.{tape_checks}
