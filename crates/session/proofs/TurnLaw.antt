@@ -4,7 +4,7 @@ use mathlib.Core.List.{List, [], ◌∷◌, ◌++◌}
 use mathlib.Core.Path.{◌≡◌, ap, ap₂, refl, ◌∙◌}
 use borrow.Author.Tests.{le-ltb, lt-ltb}
 use lib.ListN.{length}
-use Rattle.std.specs.Prelude.{None}
+use Rattle.std.specs.Prelude.{None, Result}
 use Rattle.gate.specs.Places.{Place, p0}
 use Rattle.machine.specs.Checks.{Tapes}
 use Rattle.machine.specs.Step as defined
@@ -44,7 +44,7 @@ module _ (m : Machine) (c : Place → List ℕ) (t₀ t₁ t₂ dealer : List �
   item_added i h = rw (lt-ltb (length dealer) most h) refl
 
 -- an order's outcome, with the numbers of its answer
-module _ (o : Order) (ws : List ℕ) (T : Tapes) (c : Place → List ℕ) (vs : List ℕ) (a : Answer) (d : Place → List ℕ) where
+module _ (o : Order) (ws : List ℕ) (T : Tapes) (c : Place → List ℕ) (vs : List ℕ) (a : Result Done Refusal) (d : Place → List ℕ) where
   pub order-taken : {m : Machine} {U : Tapes} {r v : ℕ} → Reports vs a d (step o (machine_in ws) T c) → machine_in ws ≡ m → T ≡ U
       → r ≡ refusal_of a → v ≡ value_of a → turned (state (machine_in vs) U d) (says r v) ≡ ordered (state m U c) o
   unfolding ordered
