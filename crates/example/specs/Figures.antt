@@ -10,7 +10,7 @@ use Rattle.machine.specs.Step.{value_of}
 use Rattle.machine.specs.declared.orders.Order.{Order}
 use Rattle.machine.specs.declared.orders.Order.TheVariants.{Add, Compose, Convert, Deal, Decompose, Multiply, Open, Scale, Shift}
 use Rattle.machine.specs.declared.registers.Machine.{Machine}
-use Rattle.machine.specs.declared.registers.Slot.{Slot}
+use Rattle.machine.specs.declared.registers.Register.{Register}
 use Rattle.act.specs.Jobs.{Entry, Job, Outcome, View, course, view}
 use Rattle.act.specs.Secrecy.{Hidden, tapes_with}
 use Rattle.protocol.specs.Orders.{Seen, column, orders}
@@ -68,7 +68,7 @@ table =
 
 -- the values of the 16 registers after the last order
 unfoldable pub values_from : Machine → List (Outcome Machine) → List ℕ
-values_from m [] = map (λ (s : Slot). value_of s.reg) m.slots
+values_from m [] = map value_of m.slots
 values_from m (o ∷ os) = values_from o.state os
 
 abbrev pub values : Job orders → Tapes → List ℕ

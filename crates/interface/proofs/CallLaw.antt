@@ -1,7 +1,7 @@
 -- When a call is malformed, and what it leaves otherwise.
-use Rattle.std.specs.Prelude.{Some, None, Option}
+use Rattle.std.specs.Prelude.{Some, None, Option, Result}
 use Prim.Native.Nat.{ℕ}
-use mathlib.Core.Bool.{Bool, cond, false, not, true}
+use mathlib.Core.Bool.{Bool, cond, false, true}
 use mathlib.Core.List.{List, [], ◌∷◌}
 use mathlib.Core.Path.{◌≡◌, ap, ap₂, refl, ◌∙◌}
 use native.Mathlib.Omega.{arith}
@@ -12,16 +12,16 @@ use Rattle.gate.specs.Places.{Place}
 use Rattle.machine.specs.Checks.{Tapes}
 use Rattle.machine.specs.Step.{Outcome, step}
 use Rattle.machine.specs.Registers.{sound}
-use Rattle.machine.specs.declared.answers.Answer.{Answer}
+use Rattle.machine.specs.declared.answers.Done.{Done}
+use Rattle.machine.specs.declared.answers.Refusal.{Refusal}
 use Rattle.machine.specs.declared.orders.Order.{Order}
 use Rattle.machine.specs.declared.registers.Machine.{Machine}
-use Rattle.layout.specs.Layout.{MachineFound, answer_words, found, machine_of, none, order_of, seen_of}
-use Rattle.layout.specs.declared.records.Seen.{Seen}
+use Rattle.layout.specs.Layout.{answer_words, machine_of, order_of, seen_of}
 use Rattle.order.specs.Answers.{refusal_of}
 use Rattle.step.specs.Words.{Reports}
 use Rattle.tape.specs.Tapes.{count_of, outcome, prepared}
 use Rattle.tape.specs.Tapes as tapes
-use Rattle.tape.specs.declared.tapes.Prepared.{Prepared}
+use Rattle.tape.specs.declared.tapes.Refused.{Refused}
 use Rattle.batch.specs.Batch as batches
 use Rattle.batch.specs.Calls.{answered}
 use Rattle.interface.specs.Calls.{Left, batch_words, decomposed, decomposed_by, left, left_by, malformed, prepare_words, step_read, step_words, tape, tape_by}
@@ -30,7 +30,7 @@ cond_same : {A : Type 0} (b : Bool) (u : A) → cond b u u ≡ u
 cond_same true u = refl
 cond_same false u = refl
 
-no_machine : (r : Option Order) (T : Tapes) (c : Place → List ℕ) (u : Left) → step_read r none T c u ≡ u
+no_machine : (r : Option Order) (T : Tapes) (c : Place → List ℕ) (u : Left) → step_read r None T c u ≡ u
 no_machine (Some o) T c u = refl
 no_machine None T c u = refl
 
@@ -43,26 +43,26 @@ pub order_unread : (o m a : List ℕ) (T : Tapes) (c : Place → List ℕ) → o
 unfolding step_words
 order_unread o m a T c e = rw (e, cond_same)
 
-pub record_unread : (o m a : List ℕ) (T : Tapes) (c : Place → List ℕ) → machine_of m ≡ none → left malformed m a c ≡ step_words o m a T c
+pub record_unread : (o m a : List ℕ) (T : Tapes) (c : Place → List ℕ) → machine_of m ≡ None → left malformed m a c ≡ step_words o m a T c
 unfolding step_words
 record_unread o m a T c e = rw (e, no_machine, cond_same)
 
 pub step-read : (o m a : List ℕ) (T : Tapes) (c : Place → List ℕ) {k : Order} {s : Machine}
-    → length a ≡ 3 → order_of o ≡ Some k → machine_of m ≡ found s → left_by (step k s T c) ≡ step_words o m a T c
+    → length a ≡ 3 → order_of o ≡ Some k → machine_of m ≡ Some s → left_by (step k s T c) ≡ step_words o m a T c
 unfolding step_words
 step-read o m a T c n e f = rw (eq-eqb (length a) 3 n, e, f)
 
 -- what was seen of a record
-pub seen_none : (f : MachineFound) {r : Seen} → r ≡ seen_of f → not r.ok ≡ true → f ≡ none
-seen_none none e t = refl
-seen_none (found m) e t = cc (e, t)
+pub unseen : (f : Option Machine) {r : Option Bool} → r ≡ seen_of f → r ≡ None → f ≡ None
+unseen None e t = refl
+unseen (Some m) e t = cc (e, t)
 
-pub seen-found : (f : MachineFound) {r : Seen} → r ≡ seen_of f → not r.ok ≡ false → (m : Machine) × (f ≡ found m) × (r.sound ≡ sound m)
-seen-found (found m) e t = (m, refl, ap (λ (r : Seen). r.sound) e)
-seen-found none e t = let wrong : true ≡ false = cc (e, t) in let never : ◌≡◌ {A = ℕ} 0 1 = cc in absurd (omega arith)
+pub seen : (f : Option Machine) {r : Option Bool} {b : Bool} → r ≡ seen_of f → r ≡ Some b → (m : Machine) × (f ≡ Some m) × (b ≡ sound m)
+seen (Some m) e t = (m, refl, cc (e, t))
+seen None e t = let wrong : ◌≡◌ {A = ℕ} 0 1 = cc (e, t) in absurd (omega arith)
 
 -- what an order leaves in words
-pub step_left : {n : ℕ} {ws words : List ℕ} {a : Answer} {c : Place → List ℕ} {x : Outcome}
+pub step_left : {n : ℕ} {ws words : List ℕ} {a : Result Done Refusal} {c : Place → List ℕ} {x : Outcome}
     → Reports ws a c x → n ≡ refusal_of a → words ≡ answer_words a → left n ws words c ≡ left_by x
 step_left {ws} {words} {c = c} {x = x} told en ea = rw (en, ea, told.words.words) (ap left_by told.is)
 
@@ -73,7 +73,7 @@ pub tape-refused : (code : ℕ) (raw run a : List ℕ) → (length a ≡ 2 → �
 unfolding prepare_words
 tape-refused code raw run a h = rw (ne_eqb (length a) 2 h)
 
-pub tape-written : (code : ℕ) (raw run a : List ℕ) {n k : ℕ} {filled : List ℕ} (p : Prepared)
+pub tape-written : (code : ℕ) (raw run a : List ℕ) {n k : ℕ} {filled : List ℕ} (p : Result ℕ Refused)
     → length a ≡ 2 → outcome p filled ≡ prepared code raw run → n ≡ tapes.refusal_of p → k ≡ count_of p
     → tape n filled (set (set a 0 n) 1 k) ≡ prepare_words code raw run a
 unfolding prepare_words
@@ -85,7 +85,7 @@ module _ (e l : ℕ) (x T c z : Place → List ℕ) (a : List ℕ) where
   unfolding batch_words
   batch-refused h = rw (ne_eqb (length a) 3 h)
 
-  pub batch-left : (given : Answer) {n : ℕ} {c' z' : Place → List ℕ} {a' : List ℕ} → length a ≡ 3
+  pub batch-left : (given : Result Done Refusal) {n : ℕ} {c' z' : Place → List ℕ} {a' : List ℕ} → length a ≡ 3
       → answered given c' z' ≡ batches.batch e l x T c z → n ≡ refusal_of given → a' ≡ answer_words given
       → decomposed n c' z' a' ≡ batch_words e l x T c z a
   unfolding batch_words

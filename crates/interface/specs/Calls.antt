@@ -6,7 +6,8 @@ use Rattle.machine.specs.Checks.{Tapes}
 use Rattle.machine.specs.Step.{Outcome, step}
 use Rattle.tape.specs.Tapes as prepared
 use Rattle.batch.specs.Batch as batches
-use Rattle.layout.specs.Layout.{MachineFound, found, machine_of, machine_words, none, order_of}
+use Rattle.machine.specs.declared.registers.Machine.{Machine}
+use Rattle.layout.specs.Layout.{machine_of, machine_words, order_of}
 
 -- the number returned for words in no layout: 02's refusals 14 to 22 stay free
 abbrev pub malformed : ℕ
@@ -27,9 +28,9 @@ abbrev pub left_by : Outcome → Left
 left_by o = left o.refusal (machine_words o.machine) (o.refusal ∷ o.value ∷ o.gates ∷ []) o.channels
 
 -- a step where order and record are read, else what the last argument leaves
-abbrev pub step_read : Option Order → MachineFound → Tapes → (Place → List ℕ) → Left → Left
-step_read (Some o) (found m) T c u = left_by (step o m T c)
-step_read (Some o) none T c u = u
+abbrev pub step_read : Option Order → Option Machine → Tapes → (Place → List ℕ) → Left → Left
+step_read (Some o) (Some m) T c u = left_by (step o m T c)
+step_read (Some o) None T c u = u
 step_read None f T c u = u
 
 -- malformed and nothing changed for words in no layout, else 01's step

@@ -30,16 +30,13 @@ pub extern "C" fn survey_step(
     if answer.len() != 3 {
         return MALFORMED;
     }
-    let seen = see(record);
-    if !seen.ok {
+    let Some(sound) = see(record) else {
         return MALFORMED;
-    }
-    match read_order(order) {
-        None => MALFORMED,
-        Some(o) => {
-            let given = step_words(seen.sound, o, record, m0, m1, m2, dealer, c0, c1, c2);
-            write_answer(given, answer);
-            refusal(given)
-        }
-    }
+    };
+    let Some(o) = read_order(order) else {
+        return MALFORMED;
+    };
+    let given = step_words(sound, o, record, m0, m1, m2, dealer, c0, c1, c2);
+    write_answer(given, answer);
+    refusal(given)
 }

@@ -1,10 +1,11 @@
 // One tape from raw words.
 ghost use Rattle.std.specs.Prelude.{◌≡◌};
 ghost use Rattle.step.specs.Lent.{Stands};
+ghost use Rattle.tape.specs.Tapes.{count_of, refusal_of};
 ghost use Rattle.interface.specs.Calls.{prepare_words, tape};
 
 use crate::MALFORMED;
-use tape::prepare;
+use tape::{Refused, prepare};
 
 // 01's preparation; the answer is the refusal number or 0, and the raw words used. MALFORMED where the answer has not two words.
 #[unsafe(no_mangle)]
@@ -15,9 +16,18 @@ pub extern "C" fn survey_prepare(code: u64, raw: &[u64], run: &mut [u64], answer
     if answer.len() != 2 {
         return MALFORMED;
     }
-    let prepared = prepare(code, raw, run);
-    let refusal = prepared.refusal();
+    let (refusal, count) = told(prepare(code, raw, run));
     answer[0] = refusal;
-    answer[1] = prepared.count();
+    answer[1] = count;
     refusal
+}
+
+// The refusal number or 0, and the raw words used.
+fn told(prepared: Result<usize, Refused>) -> (u64, u64)
+    ensures { result ≡ (refusal_of prepared, count_of prepared) }
+{
+    match prepared {
+        Ok(used) => (0, used as u64),
+        Err(why) => (why.number(), 0),
+    }
 }

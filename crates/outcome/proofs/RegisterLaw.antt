@@ -24,7 +24,6 @@ use Rattle.machine.specs.Registers.{
   register_of,
   shares_below,
   shares_of,
-  slot,
   sound,
   sound_register,
   sound_slots,
@@ -34,7 +33,6 @@ use Rattle.machine.specs.Step.{value_of}
 use Rattle.machine.specs.declared.registers.Machine.{Machine}
 use Rattle.machine.specs.declared.registers.Register.{Register}
 use Rattle.machine.specs.declared.registers.Register.TheVariants.{Bits, Empty, Number}
-use Rattle.machine.specs.declared.registers.Slot.{Slot}
 use Rattle.machine.proofs.SlotLaw.{kind-at, slot-sound}
 use Rattle.outcome.specs.Theorems.{value_at}
 
@@ -70,11 +68,11 @@ value_as_lem (bits l) z = ap exclusive (parts-sharing z)
 -- the record with another register in d
 pub register_same : (m : Machine) (d : ℕ) (r : Register) → d < length m.slots → register_at (with_register m d r) d ≡ r
 unfolding register_at with_register
-register_same m d r h = ap (λ (s : Slot). s.reg) (get_or-set_same m.slots d (slot r) (slot Empty) h)
+register_same m d r h = get_or-set_same m.slots d r Empty h
 
 pub register_other : (m : Machine) (d k : ℕ) (r : Register) → (k ≡ d → ⊥) → register_at (with_register m d r) k ≡ register_at m k
 unfolding register_at with_register
-register_other m d k r h = ap (λ (s : Slot). s.reg) (get_or-set_other m.slots d k (slot r) (slot Empty) h)
+register_other m d k r h = get_or-set_other m.slots d k r Empty h
 
 -- sub-shares that are in range for a register of that kind
 pub record FewBits (l : ℕ) (z : Place → ℕ) : Type 0 where
@@ -114,12 +112,12 @@ fits-sound empty z h = refl
 fits-sound (number r) z h = below_shares (modulus_of r) z h
 fits-sound (bits l) z h = rw (le-leb 1 l h.some, le-leb l 59 h.few) (below_shares (2 ^ l) z h.below)
 
-first-sound : (s : Slot) (ss : List Slot) → sound_slots (s ∷ ss) ≡ true → (sound_register s.reg ≡ true) × (sound_slots ss ≡ true)
+first-sound : (s : Register) (ss : List Register) → sound_slots (s ∷ ss) ≡ true → (sound_register s ≡ true) × (sound_slots ss ≡ true)
 unfolding sound_slots
 first-sound s ss h = both h
 
-set-sound : (ss : List Slot) (k : ℕ) (r : Register)
-    → sound_slots ss ≡ true → sound_register r ≡ true → sound_slots (set ss k (slot r)) ≡ true
+set-sound : (ss : List Register) (k : ℕ) (r : Register)
+    → sound_slots ss ≡ true → sound_register r ≡ true → sound_slots (set ss k r) ≡ true
 unfolding sound_slots
 set-sound [] k r h e = refl
 set-sound (s ∷ ss) zero r h e = rw e (first-sound s ss h).1

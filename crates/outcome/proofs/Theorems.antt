@@ -25,7 +25,6 @@ use Rattle.machine.specs.Work.{deals, number_kind, work_of}
 use Rattle.machine.specs.declared.orders.Order.{Order}
 use Rattle.machine.specs.declared.orders.Order.TheVariants.{Add, Compose, Convert, Deal, Decompose, Multiply, Open, Scale, Shift}
 use Rattle.machine.specs.declared.registers.Machine.{Machine}
-use Rattle.machine.specs.declared.registers.Slot.{Slot}
 use Rattle.outcome.specs.Theorems.{
   AddLeaves,
   ChannelsStand,
@@ -272,7 +271,7 @@ module _ (p : Public) (sixteen : length p.kinds ≡ 16) where
 pub kind-left : KindLeft
 kind-left o m T c ok sixteen =
     ap (λ (p : Public). kind_at p (destination o)) (step_public o m T c ok)
-    ∙ kind_by (public_of m) (length-map m.slots (λ (s : Slot). kind_of s.reg) ∙ sixteen) o (accepted o m T c ok).registers
+    ∙ kind_by (public_of m) (length-map m.slots kind_of ∙ sixteen) o (accepted o m T c ok).registers
 
 pub deal_leaves : DealLeaves
 deal_leaves d e v m T c ok sixteen =

@@ -13,11 +13,10 @@ use Rattle.gate.specs.declared.sharing.Sharing.{Sharing}
 use Rattle.gate.proofs.PlaceLaw.{each}
 use Rattle.circuit.specs.Circuits.{Circuit, gates_of, result}
 use Rattle.machine.specs.Checks.{Tapes, length_checks, uneven}
-use Rattle.machine.specs.Registers.{Kind, Public, bits, empty, kind_of, million, number, public_of, register_at, register_of, slot, sound, with_register}
+use Rattle.machine.specs.Registers.{Kind, Public, bits, empty, kind_of, million, number, public_of, register_at, register_of, sound, with_register}
 use Rattle.machine.specs.Step.{computed, dealt, dealt_shares, lengths_of, moved, opened, performed, value_of}
 use Rattle.machine.specs.Work.{Work, adjusts, computes, deals, number_kind, opens}
 use Rattle.machine.specs.declared.registers.Machine.{Machine}
-use Rattle.machine.specs.declared.registers.Slot.{Slot}
 use Rattle.machine.proofs.KindLaw.{neither}
 use Rattle.outcome.specs.Theorems.{gates_in, items_in, value_at, words_in}
 use Rattle.outcome.proofs.CheckLaw.{Passed}
@@ -96,7 +95,7 @@ public_with : (m : Machine) (gates words items d : ℕ) (kind : Kind) (x : Shari
 unfolding with_register
 public_with m gates words items d kind x =
     ap (λ (ks : List Kind). public_at ks)
-    (map-set (λ (s : Slot). kind_of s.reg) m.slots d (slot (register_of kind x))
+    (map-set kind_of m.slots d (register_of kind x)
     ∙ ap (λ (k : Kind). set (public_of m).kinds d k) (kind_is kind x))
   where
     public_at : List Kind → Public

@@ -7,10 +7,10 @@ use Rattle.gate.specs.Places.{Place, p0, p1, p2, parts}
 use Rattle.gate.specs.declared.sharing.Sharing.{Sharing}
 use Rattle.gate.proofs.PlaceLaw.{tabled_is}
 use Rattle.circuit.specs.Sharings.{zeros}
-use Rattle.machine.specs.Registers.{Kind, bits, empty, kind_at, number, public_of, register_at, register_of, shares_of, slot, with_register}
+use Rattle.machine.specs.Registers.{Kind, bits, empty, kind_at, number, public_of, register_at, register_of, shares_of, with_register}
 use Rattle.machine.specs.declared.registers.Machine.{Machine}
 use Rattle.machine.specs.declared.registers.Register.TheVariants.{Empty}
-use Rattle.machine.specs.declared.registers.Slot.{Slot}
+use Rattle.machine.specs.declared.registers.Register.{Register}
 use Rattle.act.specs.Works.{shares_read}
 use Rattle.outcome.specs.Theorems.{value_at}
 use Rattle.outcome.proofs.RegisterLaw.{map-set, shares_at, value_as_lem, value-at}
@@ -26,8 +26,8 @@ zeros-at p2 = refl
 pub column-at : (m : Machine) (k : ℕ) (i : Place) → get_or (column m i) k 0 ≡ shares_at m k i
 unfolding register_at
 column-at m k i =
-    let f : Slot → ℕ = λ s. parts (shares_of s.reg) i in
-    ap (λ (n : ℕ). get_or (map f m.slots) k n) (sym (zeros-at i)) ∙ get_or-map f m.slots k (slot Empty)
+    let f : Register → ℕ = λ r. parts (shares_of r) i in
+    ap (λ (n : ℕ). get_or (map f m.slots) k n) (sym (zeros-at i)) ∙ get_or-map f m.slots k Empty
 
 pub read_at : (m : Machine) (x : ℕ) → shares_read (column m) (share_at x) ≡ shares_at m x
 read_at m x = tabled_is (λ i. get_or (column m i) x 0) ∙ fun_ext (λ i. column-at m x i)
@@ -48,5 +48,5 @@ pub column-with : (m : Machine) (d : ℕ) (kind : Kind) (x : Sharing) (i : Place
     → column (with_register m d (register_of kind x)) i ≡ set (column m i) d (kept_as kind (parts x i))
 unfolding with_register
 column-with m d kind x i =
-    map-set (λ (s : Slot). parts (shares_of s.reg) i) m.slots d (slot (register_of kind x))
+    map-set (λ (r : Register). parts (shares_of r) i) m.slots d (register_of kind x)
     ∙ ap (λ (n : ℕ). set (column m i) d n) (kept_is kind x i)

@@ -8,7 +8,7 @@ use Rattle.machine.specs.Step as steps
 use Rattle.machine.specs.declared.orders.Order.{Order}
 use Rattle.machine.specs.declared.orders.Order.TheVariants.{Add, Compose, Convert, Deal, Decompose, Multiply, Open, Scale, Shift}
 use Rattle.machine.specs.declared.registers.Machine.{Machine}
-use Rattle.machine.specs.declared.registers.Slot.{Slot}
+use Rattle.machine.specs.declared.registers.Register.{Register}
 use Rattle.act.specs.Jobs.{Outcome, Protocol}
 use Rattle.act.specs.Secrecy.{Secrecy}
 use Rattle.outcome.specs.Theorems.{is_opening}
@@ -48,7 +48,7 @@ without_number (Open x) = Open x
 
 -- the sub-shares of every register at a place
 abbrev pub column : Machine → Place → List ℕ
-column m i = map (λ (s : Slot). parts (shares_of s.reg) i) m.slots
+column m i = map (λ (r : Register). parts (shares_of r) i) m.slots
 
 -- "each register's kind, ring or bit count and U's two sub-shares of it; the three positions": kinds and positions are what is public
 pub record Seen : Type 0 where

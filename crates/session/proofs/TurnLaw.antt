@@ -1,4 +1,5 @@
 -- What a tape line leaves, where it is taken and where 512 were taken before.
+use Rattle.std.specs.Prelude.{Result}
 use Prim.Native.Nat.{ℕ, ◌+◌, ◌-◌, ◌≤◌, ◌<◌}
 use mathlib.Core.List.{List, [], ◌∷◌, ◌++◌}
 use mathlib.Core.Path.{◌≡◌, ap, ap₂, refl, sym, ◌∙◌}
@@ -14,7 +15,8 @@ use Rattle.machine.specs.Checks.{Tapes}
 use Rattle.machine.specs.Step as defined
 use Rattle.machine.specs.Step.{step}
 use Rattle.machine.specs.declared.orders.Order.{Order}
-use Rattle.machine.specs.declared.answers.Answer.{Answer}
+use Rattle.machine.specs.declared.answers.Done.{Done}
+use Rattle.machine.specs.declared.answers.Refusal.{Refusal}
 use Rattle.machine.specs.declared.registers.Machine.{Machine}
 use Rattle.order.specs.Answers.{refusal_of, value_of}
 use Rattle.step.specs.Words.{Reports}
@@ -76,7 +78,7 @@ module _ (n : Counts) (o : Order) (ws t₀ t₁ t₂ dealer : List ℕ) (c : Pla
   lent =
       tapes (mid_of 0 (n.masks - 0) t₀) (mid_of 0 (n.masks - 0) t₁) (mid_of 0 (n.masks - 0) t₂) (mid_of 0 (n.dealer - 0) dealer)
 
-  pub order-taken : (vs : List ℕ) (a : Answer) (d : Place → List ℕ) {r v : ℕ} → Reports vs a d (step o (machine_in ws) lent c)
+  pub order-taken : (vs : List ℕ) (a : Result Done Refusal) (d : Place → List ℕ) {r v : ℕ} → Reports vs a d (step o (machine_in ws) lent c)
       → r ≡ refusal_of a → v ≡ value_of a
       → turned (state (machine_in vs) (state_of n ws t₀ t₁ t₂ dealer c).tapes d) (Says r v) ≡ ordered (state_of n ws t₀ t₁ t₂ dealer c) o
   unfolding ordered
@@ -90,7 +92,7 @@ module _ (n : Counts) (o : Order) (ws t₀ t₁ t₂ dealer : List ℕ) (c : Pla
       ∙ ap (λ (x : defined.Outcome). turned (state x.machine T x.channels) (Says x.refusal x.value)) (told.is ∙ same))
 
   -- and the record's words fit again
-  pub order-fits : (vs : List ℕ) (a : Answer) (d : Place → List ℕ) → Reports vs a d (step o (machine_in ws) lent c) → RecordFits ws → RecordFits vs
+  pub order-fits : (vs : List ℕ) (a : Result Done Refusal) (d : Place → List ℕ) → Reports vs a d (step o (machine_in ws) lent c) → RecordFits ws → RecordFits vs
   order-fits vs a d told fits = record_fits vs _ told.words (stays_sound o (machine_in ws) lent c fits.sound)
 
 -- the runs have room as before

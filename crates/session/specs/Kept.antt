@@ -1,12 +1,12 @@
 -- What the code keeps by value and is lent, as the definitions' state. Used by the code's contracts, and by the theorem `Starts`.
-use Rattle.std.specs.Prelude.{ℕ, ◌≤◌, true, List, ◌≡◌, drop, length, replicate, take}
+use Rattle.std.specs.Prelude.{ℕ, ◌≤◌, true, List, None, Option, Some, ◌≡◌, drop, length, replicate, take}
 use Rattle.std.specs.Borrow.{MutBor}
 use denote.Triple.Both.{Both}
 use Rattle.gate.specs.Lent.{at_entry_mut, at_exit}
 use Rattle.gate.specs.Places.{Place}
 use Rattle.machine.specs.Registers.{empty_machine, sound}
 use Rattle.machine.specs.declared.registers.Machine.{Machine}
-use Rattle.layout.specs.Layout.{MachineFound, Says, found, machine_of, none}
+use Rattle.layout.specs.Layout.{Says, machine_of}
 use Rattle.line.specs.Readings.{started}
 use Rattle.session.specs.Outputs.{State, Turned, most, state, tapes, turned}
 use Rattle.session.specs.Standings.{Standing, standing}
@@ -25,9 +25,9 @@ abbrev pub at_line : Counts → ℕ → Progress
 at_line n k = record { counts = n; lines = k; reading = started }
 
 -- the record that words say; where they say none, the empty machine stands for it
-abbrev pub machine_else : MachineFound → Machine
-machine_else (found m) = m
-machine_else none = empty_machine
+abbrev pub machine_else : Option Machine → Machine
+machine_else (Some m) = m
+machine_else None = empty_machine
 
 unfoldable pub machine_in : List ℕ → Machine
 machine_in ws = machine_else (machine_of ws)

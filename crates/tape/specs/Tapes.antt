@@ -1,8 +1,10 @@
 -- 01, "Preparing a tape".
 use Rattle.std.specs.Prelude.{ℕ, zero, suc, ◌%◌, ◌^◌, cond, List, [], ◌∷◌, eqb, ltb, length, Some, None, Option, Ok, Err, Result}
 use Rattle.ring.specs.declared.rings.Ring.{Ring}
-use Rattle.ring.specs.Rings.{modulus_of, ring_of, width_of}
+use Rattle.ring.specs.Rings.{modulus_of, ring_of}
+use Rattle.ring.specs.Rings as rings
 use Rattle.tape.specs.declared.items.Items.{Items}
+use Rattle.tape.specs.declared.items.Items.TheVariants.{Bits, Numbers}
 use Rattle.tape.specs.declared.tapes.Refused.{Refused}
 use Rattle.tape.specs.declared.tapes.Refused.TheVariants.{NoRing, RawEnded}
 
@@ -13,7 +15,7 @@ pub data Kind : Type 0 where
 
 -- "For a ring the low e bits .., all ones being dropped": all ones is p itself
 abbrev pub kind_of_ring : Option Ring → Kind
-kind_of_ring (Some r) = items (width_of r) (modulus_of r)
+kind_of_ring (Some r) = items (rings.width_of r) (modulus_of r)
 kind_of_ring None = other
 
 -- "for bits (ring code 1) the lowest bit": each of the two fits
@@ -25,8 +27,16 @@ unfoldable pub low_bits : ℕ → ℕ → ℕ
 low_bits e w = w % 2 ^ e
 
 -- the same, as the code has it
+abbrev pub width_of : Items → ℕ
+width_of Bits = 1
+width_of (Numbers r) = rings.width_of r
+
+abbrev pub limit_of : Items → ℕ
+limit_of Bits = 2
+limit_of (Numbers r) = modulus_of r
+
 abbrev pub asked : Option Items → Kind
-asked (Some i) = items i.width i.limit
+asked (Some i) = items (width_of i) (limit_of i)
 asked None = other
 
 -- the items, with the count of raw words used for them; or too few raw words

@@ -1,7 +1,7 @@
 // One item at a time, from the raw words.
 ghost use Rattle.std.specs.Prelude.{◌≡◌, ◌<◌};
 ghost use Rattle.tape.specs.Draws.{Drew};
-ghost use Rattle.tape.specs.Tapes.{low_bits};
+ghost use Rattle.tape.specs.Tapes.{limit_of, low_bits, width_of};
 
 use crate::items::Items;
 
@@ -21,13 +21,15 @@ fn low_bits(width: u64, w: u64) -> u64
 }
 
 // Draws from the raw words at `at` and on, until an item fits; none does where they end.
+#[tactic(auto, using(crate::proofs::KindLaw::narrow))]
 pub fn draw_item(items: Items, raw: &[u64], at: usize) -> Option<Draw>
-    requires { items.width < 64 }
-    ensures { Drew items.width items.limit at raw.now result }
+    ensures { Drew (width_of items) (limit_of items) at raw.now result }
 {
+    let width = items.width();
+    let limit = items.limit();
     for i in at..raw.len() {
-        let item = low_bits(items.width, raw[i]);
-        if item < items.limit {
+        let item = low_bits(width, raw[i]);
+        if item < limit {
             return Some(Draw { item, next: i + 1 });
         }
     }

@@ -1,14 +1,14 @@
 // What a ring code asks for.
 ghost use Rattle.std.specs.Prelude.{◌≡◌};
-ghost use Rattle.tape.specs.Tapes.{asked, kind_of};
+ghost use Rattle.tape.specs.Tapes.{asked, kind_of, limit_of, width_of};
 
 use ring::Ring;
 
-// Items of `width` bits that lie below `limit`.
-#[derive(Clone, Copy)]
-pub struct Items {
-    pub width: u64,
-    pub limit: u64,
+// Bits, or numbers of a ring.
+#[derive(Clone, Copy, Debug, PartialEq, Eq)]
+pub enum Items {
+    Bits,
+    Numbers(Ring),
 }
 
 // 01's ring code for bits.
@@ -16,16 +16,34 @@ const BITS: u64 = 1;
 
 impl Items {
     // The items of a ring code, where it is one.
+    #[tactic(auto, unfolding(crate::specs::Tapes::kind_of))]
     pub fn of_code(code: u64) -> Option<Items>
         ensures { asked result ≡ kind_of code }
     {
         if code == BITS {
-            return Some(Items { width: 1, limit: 2 });
+            return Some(Items::Bits);
         }
         let ring = Ring::of_width(code)?;
-        Some(Items {
-            width: ring.width(),
-            limit: ring.modulus(),
-        })
+        Some(Items::Numbers(ring))
+    }
+
+    // How many low bits of a raw word an item is.
+    pub fn width(self) -> u64
+        ensures { result ≡ width_of self }
+    {
+        match self {
+            Items::Bits => 1,
+            Items::Numbers(ring) => ring.width(),
+        }
+    }
+
+    // What an item lies below.
+    pub fn limit(self) -> u64
+        ensures { result ≡ limit_of self }
+    {
+        match self {
+            Items::Bits => 2,
+            Items::Numbers(ring) => ring.modulus(),
+        }
     }
 }

@@ -1,7 +1,7 @@
 // Preparing a tape: the ring code, then the two passes.
-ghost use Rattle.std.specs.Prelude.{◌≡◌, ◌<◌, length};
+ghost use Rattle.std.specs.Prelude.{◌≡◌, length};
 ghost use Rattle.ring.specs.Lent.{Stands};
-ghost use Rattle.tape.specs.Tapes.{fill, number_of, outcome, prepared, settled};
+ghost use Rattle.tape.specs.Tapes.{fill, limit_of, number_of, outcome, prepared, settled, width_of};
 
 use crate::items::Items;
 use crate::passes::{enough, fill_run};
@@ -27,8 +27,7 @@ impl Refused {
 
 // Items for the whole run or not at all.
 fn prepare_items(items: Items, raw: &[u64], run: &mut [u64]) -> Result<usize, Refused>
-    requires { items.width < 64 }
-    ensures { outcome result run.new ≡ settled run.old (fill items.width items.limit (length run.old) 0 raw.now) }
+    ensures { outcome result run.new ≡ settled run.old (fill (width_of items) (limit_of items) (length run.old) 0 raw.now) }
 {
     if enough(items, raw, run.len()) {
         return Ok(fill_run(items, raw, run));
@@ -37,6 +36,7 @@ fn prepare_items(items: Items, raw: &[u64], run: &mut [u64]) -> Result<usize, Re
 }
 
 // Fills the run with items for a ring code, and answers the count of raw words used, or leaves it as it was.
+#[tactic(auto, unfolding(crate::specs::Tapes::prepared))]
 pub fn prepare(code: u64, raw: &[u64], run: &mut [u64]) -> Result<usize, Refused>
     ensures is { outcome result run.new ≡ prepared code raw.now run.old }
     ensures lent { Stands raw }

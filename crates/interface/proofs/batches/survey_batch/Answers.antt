@@ -1,35 +1,25 @@
 -- Each way out of a call is what the definition leaves.
 use Prim.Native.Nat.{ℕ}
 use mathlib.Core.List.{List}
-use mathlib.Core.Path.{refl}
 use Rattle.gate.specs.Places.{Place, three}
 use Rattle.interface.proofs.CallLaw.{batch-left, batch-refused}
 use Rattle.interface.proofs.batches.survey_batch.Goals as goal
 
-pub returns-then-answer-ne3 : goal.returns-then-answer-ne3
-returns-then-answer-ne3 c =
+pub returns-then-answer-ne3-clause-is : goal.returns-then-answer-ne3-clause-is
+returns-then-answer-ne3-clause-is c =
     let a = c.args in
     let shares : Place → List ℕ = three a.a0.now a.a1.now a.a2.now in
     let masks : Place → List ℕ = three a.m0.now a.m1.now a.m2.now in
     let channels : Place → List ℕ = three a.c0.now a.c1.now a.c2.now in
     let results : Place → List ℕ = three a.z0.now a.z1.now a.z2.now in
-    record {
-      is = batch-refused a.width a.bits shares masks channels results a.answer.now c.if-answer-ne3.true;
-      lent = (refl, refl, refl, refl, refl, refl);
-    }
+    batch-refused a.width a.bits shares masks channels results a.answer.now c.if-answer-ne3.true
 
-pub write_answer-requires : goal.write_answer-requires
-write_answer-requires c = c.if-answer-ne3.false
-
-pub returns : goal.returns
-returns c =
+pub returns-clause-is : goal.returns-clause-is
+returns-clause-is c =
     let a = c.args in
     let shares : Place → List ℕ = three a.a0.now a.a1.now a.a2.now in
     let masks : Place → List ℕ = three a.m0.now a.m1.now a.m2.now in
     let channels : Place → List ℕ = three a.c0.now a.c1.now a.c2.now in
     let results : Place → List ℕ = three a.z0.now a.z1.now a.z2.now in
-    record {
-      is = batch-left a.width a.bits shares masks channels results a.answer.now c.decompose_batch-given.result c.if-answer-ne3.false
-          c.decompose_batch-given.ensures.is c.refusal.ensures c.write_answer.ensures;
-      lent = (refl, refl, refl, refl, refl, refl);
-    }
+    batch-left a.width a.bits shares masks channels results a.answer.now c.decompose_batch-given.result c.if-answer-ne3.false
+    c.decompose_batch-given.ensures.is c.refusal.ensures c.write_answer.ensures

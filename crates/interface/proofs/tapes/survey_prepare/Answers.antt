@@ -1,15 +1,11 @@
-use mathlib.Core.Path.{refl}
+use mathlib.Core.Path.{ap}
 use Rattle.interface.proofs.CallLaw.{tape-refused, tape-written}
 use Rattle.interface.proofs.tapes.survey_prepare.Goals as goal
 
-pub returns : goal.returns
-returns c =
-    record {
-      is = tape-written _ _ _ _ c.prepare-prepared.result c.if-answer-ne2.false c.prepare-prepared.ensures.is c.refusal-refusal.ensures
-          c.count.ensures;
-      lent = refl;
-    }
+pub returns-then-answer-ne2-clause-is : goal.returns-then-answer-ne2-clause-is
+returns-then-answer-ne2-clause-is c = tape-refused _ _ _ _ c.if-answer-ne2.true
 
-pub returns-then-answer-ne2 : goal.returns-then-answer-ne2
-returns-then-answer-ne2 c =
-    record { is = tape-refused _ _ _ _ c.if-answer-ne2.true; lent = refl }
+pub returns-clause-is : goal.returns-clause-is
+returns-clause-is c =
+    let told = c.told-refusal.ensures in
+    tape-written _ _ _ _ c.prepare.result c.if-answer-ne2.false c.prepare.ensures.is (ap (λ t. t.0) told) (ap (λ t. t.1) told)

@@ -5,11 +5,14 @@ use Rattle.tape.proofs.draws.draw_item.Goals as goal
 
 pub loop-i-preserved : goal.loop-i-preserved
 loop-i-preserved c =
-    λ n. c.loop-i.invariant n ∙ again_here _ _ _ _ n c.loop-i-test.true c.low_bits-item.ensures c.if-item-items.false
+    λ n. c.loop-i.invariant n ∙ again_here _ _ _ _ n c.loop-i-test.true c.low_bits-item.ensures c.if-item-limit.false
 
-pub returns-then-item-items : goal.returns-then-item-items
-returns-then-item-items c =
-    record { goes = λ n. c.loop-i.invariant n ∙ fits_here _ _ _ _ n c.loop-i-test.true c.low_bits-item.ensures c.if-item-items.true }
+pub returns-then-item-limit : goal.returns-then-item-limit
+returns-then-item-limit c =
+    rw (← c.width-width.ensures, ← c.limit-limit.ensures)
+    (record { goes = λ n. c.loop-i.invariant n ∙ fits_here _ _ _ _ n c.loop-i-test.true c.low_bits-item.ensures c.if-item-limit.true })
 
 pub returns : goal.returns
-returns c = record { goes = λ n. c.loop-i.invariant n ∙ ended_here _ _ _ _ n c.loop-i-test.false }
+returns c =
+    rw (← c.width-width.ensures, ← c.limit-limit.ensures)
+    (record { goes = λ n. c.loop-i.invariant n ∙ ended_here _ _ _ _ n c.loop-i-test.false })

@@ -1,13 +1,8 @@
 -- The mask is one less than a power of two.
-use native.Mathlib.Omega.{arith}
 use lib.Bits.{and_mask}
-use lib.Pow.{pow_pos}
 use Rattle.ring.proofs.WordLaw.{shifted_one}
 use Rattle.tape.specs.Tapes.{low_bits}
 use Rattle.tape.proofs.draws.low_bits.Goals as goal
-
-pub overflow_sub-result : goal.overflow_sub-result
-overflow_sub-result c = omega (arith, shifted_one c.args.width c.requires, pow_pos c.args.width)
 
 pub returns : goal.returns
 unfolding low_bits

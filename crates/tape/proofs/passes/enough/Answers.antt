@@ -1,13 +1,10 @@
 -- Invariant: the raw words from `at` on suffice for the items left where all of them suffice for n.
-use mathlib.Core.Path.{refl, sym, ap, ◌∙◌}
-use native.Mathlib.Nat.{sub-add-eq, sub-zero}
+use mathlib.Core.Path.{sym, ap, ◌∙◌}
+use native.Mathlib.Nat.{sub-add-eq}
 use native.Mathlib.Omega.{arith}
 use Rattle.tape.specs.Draws.{suffices}
 use Rattle.tape.proofs.FillLaw.{all-counted, counted, none_drawn}
 use Rattle.tape.proofs.passes.enough.Goals as goal
-
-pub loop-init : goal.loop-init
-loop-init c = rw sub-zero refl
 
 pub loop-preserved : goal.loop-preserved
 loop-preserved c = rw sub-add-eq (c.loop.invariant ∙ counted c.draw_item.ensures (omega arith) c.in-Some.is)

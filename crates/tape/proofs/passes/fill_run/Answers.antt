@@ -1,18 +1,15 @@
 -- Invariant: the items written, joined to what the raw words from `at` on give, are the whole filling.
 use mathlib.Core.Path.{sym, ap, ◌∙◌}
-use native.Mathlib.Nat.{sub-add-eq, sub-zero}
+use native.Mathlib.Nat.{sub-add-eq}
 use native.Mathlib.Omega.{arith}
 use Rattle.tape.specs.Draws.{suffices}
-use Rattle.tape.proofs.FillLaw.{all-written, drawn, joined_none, suffices-joined, written}
+use Rattle.tape.proofs.FillLaw.{all-written, drawn, suffices-joined, written}
 use Rattle.tape.proofs.passes.fill_run.Goals as goal
-
-pub loop-slot-init : goal.loop-slot-init
-loop-slot-init c = rw sub-zero (joined_none _)
 
 -- raw words that suffice give an item
 pub unwrap-draw-requires : goal.unwrap-draw-requires
 unwrap-draw-requires c =
-    let rest = sym (suffices-joined _ _) ∙ sym (ap suffices c.loop-slot.invariant) ∙ c.requires.enough in
+    let rest = sym (suffices-joined _ _) ∙ sym (ap suffices c.loop-slot.invariant) ∙ c.requires in
     drawn c.draw_item.ensures (omega arith) rest
 
 pub loop-slot-preserved : goal.loop-slot-preserved

@@ -4,11 +4,5 @@ use Rattle.tape.specs.Tapes.{settled}
 use Rattle.tape.proofs.FillLaw.{fell_short}
 use Rattle.tape.proofs.tapes.prepare_items.Goals as goal
 
-pub returns-then-enough : goal.returns-then-enough
-returns-then-enough c = sym (ap (settled _) c.fill_run.ensures)
-
-pub fill_run-requires-clause-enough : goal.fill_run-requires-clause-enough
-fill_run-requires-clause-enough c = sym c.enough.ensures ∙ c.if-enough.true
-
 pub returns : goal.returns
 returns c = sym (ap (settled _) (fell_short _ (sym c.enough.ensures ∙ c.if-enough.false)))
