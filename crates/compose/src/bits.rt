@@ -128,7 +128,6 @@ fn reduce_sums(e: u64, p: u64, sum: Sharing) -> Sharing
 }
 
 // Bits from, from + 1, .. of w, count of them, with weights 1, 2, 4, .. modulo p.
-#[inline(always)]
 pub fn compose_bits(r: Ring, w: Sharing, from: u64, count: u64, lent: &mut Lent<'_>) -> Sharing
     requires bits { from + count ≤ 64 }
     requires supplied { Supplied (modulus_of r) (2 * count) lent.old }
@@ -148,7 +147,6 @@ pub fn compose_bits(r: Ring, w: Sharing, from: u64, count: u64, lent: &mut Lent<
 }
 
 // Order 8: all l bits of w.
-#[inline(always)]
 pub fn compose(f: Ring, w: Sharing, l: u64, lent: &mut Lent<'_>) -> Sharing
     requires bits { l ≤ 59 }
     requires supplied { Supplied (modulus_of f) (2 * l) lent.old }

@@ -88,7 +88,6 @@ fn settle(e: Ring, f: Ring, x: Sharing, q: Sharing) -> Sharing
 }
 
 // Order 6: a majority gate, and two bits composed in the new ring.
-#[inline(always)]
 pub fn convert(e: Ring, f: Ring, a: Sharing, lent: &mut Lent<'_>) -> Sharing
     requires source { InRange (modulus_of e) a }
     requires room { Room 5 lent.old }
