@@ -43,12 +43,12 @@ use Rattle.order.proofs.VerdictLaw.{numbered}
 use Rattle.attempt.proofs.SupplyLaw.{gates_cost}
 
 -- what an accepted order has of the record
-module _ (m : Machine) (d : ℕ) {t : Prepared} where
-  pub ready_local : {r : Register} → t ≡ Local r → Ready m d (Ok t) → Seated m d
-  ready_local e h = rw e at h
+module _ (m : Machine) (d : ℕ) {t : Result Prepared Refusal} {p : Prepared} (is : t ≡ Ok p) where
+  pub ready_local : {r : Register} → p ≡ Local r → Ready m d t → Seated m d
+  ready_local e h = rw (is ∙ ap Ok e) at h
 
-  pub ready_gates : {g : Task} → t ≡ Gates g → Ready m d (Ok t) → Seated m d × Fit g
-  ready_gates e h = rw e at h
+  pub ready_gates : {g : Task} → p ≡ Gates g → Ready m d t → Seated m d × Fit g
+  ready_gates e h = rw (is ∙ ap Ok e) at h
 
 -- three runs that are even
 even : (a b c : ℕ) → uneven (three a b c) ≡ false → (a ≡ b) × (b ≡ c)

@@ -96,7 +96,7 @@ fn perform(
 pub fn attempt(
     at: Positions,
     d: u64,
-    t: Prepared,
+    t: Result<Prepared, Refusal>,
     m0: &[u64],
     m1: &[u64],
     m2: &[u64],
@@ -104,11 +104,11 @@ pub fn attempt(
     c1: &mut [u64],
     c2: &mut [u64],
 ) -> Result<Change, Refusal>
-    requires { (m : Machine) × Ready m d (Ok t) }
-    ensures { (m : Machine) → at ≡ positions_in m → Ready m d (Ok t)
-        → Changes m result (at_exit c0 c1 c2) (attempted (Ok t) d m (at_entry m0 m1 m2) (at_entry_mut c0 c1 c2)) }
+    requires { (m : Machine) × Ready m d t }
+    ensures { (m : Machine) → at ≡ positions_in m → Ready m d t
+        → Changes m result (at_exit c0 c1 c2) (attempted t d m (at_entry m0 m1 m2) (at_entry_mut c0 c1 c2)) }
 {
-    match t {
+    match t? {
         Prepared::Local(r) => Ok(Change::Stored {
             d,
             register: r,

@@ -60,16 +60,6 @@ pub stepped : {o : Order} {m : Machine} {d : ℕ} {t : Result Prepared Refusal} 
     → Prepares o m d t → Changes m k l (attempted t d m T c) → Changes m k l (step o m (record { masks = T; dealer = D }) c)
 stepped D T c p q = record { fits = q.fits; is = q.is ∙ sym (p.is D T c) }
 
--- with what was prepared of it
-pub prepared : {o : Order} {m : Machine} {d : ℕ} {t u : Result Prepared Refusal} → t ≡ u → Prepares o m d t → Prepares o m d u
-prepared e p = rw e at p
-
--- or refused by the record
-pub declined : {o : Order} {m : Machine} {d : ℕ} (w : Refusal) (D : List ℕ) (T c : Place → List ℕ)
-    → Prepares o m d (Err w) → Changes m (Err w) c (step o m (record { masks = T; dealer = D }) c)
-unfolding attempted
-declined w D T c p = record { fits = tt; is = sym (p.is D T c) }
-
 -- and what applying it answers
 pub answered : {x : Outcome} {k : Result Change Refusal} {l : Place → List ℕ} (o : Order) (m : Machine) (T : Tapes) (c : Place → List ℕ)
     → x ≡ applied k m l → Changes m k l (step o m T c) → x ≡ step o m T c

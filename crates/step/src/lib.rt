@@ -41,7 +41,7 @@ pub fn decide(
     let at = found.at;
     match way_of(s, o) {
         Way::Deal { d, e, v } => deal(s.sound, at.dealer, d, e, v, dealer),
-        Way::Attempt(d, t) => attempt(at, d, t?, m0, m1, m2, c0, c1, c2),
+        Way::Attempt(d, t) => attempt(at, d, t, m0, m1, m2, c0, c1, c2),
         Way::Open { x } => open(s, x, at.channels, c0, c1, c2),
     }
 }

@@ -11,8 +11,7 @@ use Rattle.order.specs.declared.sources.Positions.{Positions}
 use Rattle.order.specs.declared.sources.Sources.{Sources}
 use Rattle.step.specs.Ways.{Takes}
 use Rattle.step.specs.declared.ways.Way.{Way}
-use Rattle.step.proofs.StepLaw.{dealing, declined, positions-at, prepared, sources_found, stepped, taken}
-use Rattle.order.proofs.StepLaw.{passed_change}
+use Rattle.step.proofs.StepLaw.{dealing, positions-at, sources_found, stepped, taken}
 use Rattle.step.proofs.decide.Goals as goal
 
 -- the way that was told
@@ -23,8 +22,7 @@ takes o told e m is = rw e at (told m is)
 pub attempt-requires : goal.attempt-requires
 attempt-requires c =
     let m = c.requires.0 in
-    let is = sources_found m c.args.o c.requires.1 in
-    (m, (prepared c.in_ok-t-in-Attempt.was (takes c.args.o c.way_of.ensures c.in-Attempt.is m is)).ready)
+    (m, (takes c.args.o c.way_of.ensures c.in-Attempt.is m (sources_found m c.args.o c.requires.1)).ready)
 
 pub open-requires : goal.open-requires
 open-requires c =
@@ -39,17 +37,10 @@ returns-in-Deal c = λ m is.
     let channels : Place → List ℕ = three a.c0.now a.c1.now a.c2.now in
     taken lent channels (takes a.o c.way_of.ensures c.in-Deal.is m (sources_found m a.o is)) (c.deal.ensures m (dealing m a.o is) lent.masks channels)
 
-pub returns-in_err-t-in-Attempt : goal.returns-in_err-t-in-Attempt
-returns-in_err-t-in-Attempt c = λ m is.
+pub returns-in-Attempt : goal.returns-in-Attempt
+returns-in-Attempt c = λ m is.
     let a = c.args in
-    passed_change m _ _ c.from_residual.ensures.1
-    (declined _ a.dealer.now (three a.m0.now a.m1.now a.m2.now) (three a.c0.now a.c1.now a.c2.now)
-    (prepared c.in_err-t-in-Attempt.was (takes a.o c.way_of.ensures c.in-Attempt.is m (sources_found m a.o is))))
-
-pub returns-in_ok-t-in-Attempt : goal.returns-in_ok-t-in-Attempt
-returns-in_ok-t-in-Attempt c = λ m is.
-    let a = c.args in
-    let prepares = prepared c.in_ok-t-in-Attempt.was (takes a.o c.way_of.ensures c.in-Attempt.is m (sources_found m a.o is)) in
+    let prepares = takes a.o c.way_of.ensures c.in-Attempt.is m (sources_found m a.o is) in
     stepped {l = three c.attempt.new.c0 c.attempt.new.c1 c.attempt.new.c2} a.dealer.now (three a.m0.now a.m1.now a.m2.now)
     (three a.c0.now a.c1.now a.c2.now) prepares (c.attempt.ensures m (positions-at m a.o is) prepares.ready)
 
