@@ -1,5 +1,6 @@
 // Orders 2 to 8 once the record has decided: checks 8, 9, 11 and 10, and only then the gates.
-// The six runs stay slices side by side: C lends them so, one by one.
+// The six runs stay slices side by side: C lends them so, one by one. Positions are u64 as in C's record, and each `as usize` is shown
+// to lose nothing: `try_from` would bring a refusal that cannot happen.
 ghost use Rattle.std.specs.Prelude.{Ok, ◌≡◌, ◌+◌};
 ghost use Rattle.gate.specs.Lent.{at_entry, at_entry_mut, at_exit};
 ghost use Rattle.circuit.specs.Lent.{Long};

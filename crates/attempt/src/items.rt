@@ -1,4 +1,5 @@
-// Check 10: items of the mask tapes that are out of range.
+// Check 10: items of the mask tapes that are out of range. The three tapes stay slices side by side: C lends them so. Each `as` is shown
+// to lose nothing: `try_from` would bring a refusal that cannot happen.
 ghost use Rattle.std.specs.Prelude.{◌++◌, ◌≡◌, ◌+◌, ◌≤◌, ◌^◌, leb, replicate};
 ghost use Rattle.gate.specs.Places.{three};
 ghost use Rattle.circuit.specs.Lent.{Long};

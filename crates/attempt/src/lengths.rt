@@ -1,4 +1,5 @@
-// How long the runs are that an order is lent.
+// How long the runs are that an order is lent, which stay slices side by side: C lends them so. Lengths are u64, to be held against the
+// positions of C's record; no `From` leads from usize to u64, and `as` is shown to lose nothing.
 ghost use Rattle.std.specs.Prelude.{◌≡◌};
 ghost use Rattle.gate.specs.Lent.{at_entry};
 ghost use Rattle.order.specs.Attempts.{lengths_of};

@@ -1,4 +1,4 @@
-// The gates of orders 4 to 8 on the runs that they are lent.
+// The gates of orders 4 to 8 on the runs that they are lent. The runs come as slices, as C lends them, and go on as one `Lent`.
 ghost use Rattle.gate.specs.Lent.{at_entry, at_entry_mut, at_exit};
 ghost use Rattle.gate.specs.Places.{parts};
 ghost use Rattle.circuit.specs.Lent.{Left};
@@ -12,7 +12,8 @@ use gate::Sharing;
 use order::Task;
 use shift::shift;
 
-// The gates of a task, whose words go to the heads of the channels.
+// The gates of a task, whose words go to the heads of the channels. The tasks hold other fields each, so the one `match` that takes them
+// out calls their functions too.
 pub fn words(
     t: Task,
     m0: &[u64],

@@ -1,4 +1,5 @@
 // A batch: its checks, and only then the gates. The twelve runs stay slices side by side: C lends them so, one by one.
+// `l` is C's u64, and its `as usize` is shown to lose nothing.
 ghost use Rattle.std.specs.Prelude.{◌≡◌, ◌+◌, ◌*◌, ◌≤◌, length};
 ghost use Rattle.ring.specs.Lent.{Stands};
 ghost use Rattle.ring.specs.Rings.{modulus_of, width_of};

@@ -1,4 +1,4 @@
-// The checks of a batch, in the order of 02.
+// The checks of a batch, in the order of 02. The three runs of figures stay slices side by side: C lends them so.
 ghost use Rattle.std.specs.Prelude.{◌≡◌, length};
 ghost use Rattle.ring.specs.Rings.{width_of};
 ghost use Rattle.gate.specs.Lent.{at_entry};
@@ -24,7 +24,7 @@ pub fn not_count(n0: usize, n1: usize, n2: usize) -> bool
     !((n0 == COUNT) & ((n1 == COUNT) & (n2 == COUNT)))
 }
 
-// The ring of a batch: 13 has none.
+// The ring of a batch: 13 has none. 02 names its two widths, which `Ring::of_width` with one taken away would not show.
 #[tactic(auto, unfolding(crate::specs::Calls::batch_ring))]
 pub fn batch_ring(e: u64) -> Option<Ring>
     ensures { result ≡ batch_ring e }

@@ -1,4 +1,5 @@
-// Order 1: a number comes in from the dealer.
+// Order 1: a number comes in from the dealer. Lengths and positions are u64 as in C's record, and each `as` is shown to lose nothing:
+// `try_from` would bring a refusal that cannot happen.
 ghost use Rattle.std.specs.Prelude.{◌≡◌, ◌<◌, List, ℕ, IfOk, drop, get_or, length};
 ghost use Rattle.ring.specs.Rings.{modulus_of};
 ghost use Rattle.gate.specs.Places.{Place};

@@ -1,4 +1,5 @@
-// Order 9: a register's value goes out. The three channels stay slices side by side: C lends them so, one by one.
+// Order 9: a register's value goes out. The three channels stay slices side by side: C lends them so, one by one. Lengths and positions
+// are u64 as in C's record, and each `as` is shown to lose nothing: `try_from` would bring a refusal that cannot happen.
 ghost use Rattle.std.specs.Prelude.{[], ◌∷◌, ◌≡◌, ◌<◌, length};
 ghost use Rattle.gate.specs.Lent.{at_entry_mut, at_exit};
 ghost use Rattle.gate.specs.Places.{next, parts, tabled, three};
@@ -37,7 +38,7 @@ fn open_why(s: Sources, x: u64, at: u64, l0: u64, l1: u64, l2: u64) -> Result<()
     channels_why(l0, l1, l2, at)
 }
 
-// Party i sends sub-share i+1: one word a channel, at a position.
+// Party i sends sub-share i+1, which is not its own place's, so no `map` makes it: one word a channel, at a position.
 fn open_words(a: Sharing, at: u64, c0: &mut [u64], c1: &mut [u64], c2: &mut [u64])
     requires zero { at < length c0.old }
     requires one { at < length c1.old }

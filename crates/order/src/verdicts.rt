@@ -68,7 +68,7 @@ fn two_numbers(x: Register, y: Register) -> Result<(Ring, Sharing, Sharing), Ref
     }
     let (r, s) = a_number(x)?;
     let (q, t) = a_number(y)?;
-    if r.width() != q.width() {
+    if r != q {
         return Err(Refusal::RingsDiffer);
     }
     Ok((r, s, t))

@@ -15,7 +15,7 @@ pub struct Found {
 // No register has this number, and it reads as an empty one: so a missing source needs no case of its own.
 const NONE: u64 = REGISTERS as u64;
 
-// The number of an order's source x.
+// The number of an order's source x: a `match`, since an order with no source has no such field.
 pub fn source(o: Order) -> u64
     ensures { result ≡ first_source o }
 {
@@ -32,7 +32,7 @@ pub fn source(o: Order) -> u64
     }
 }
 
-// And of its source y.
+// And of its source y, which two kinds have.
 pub fn other(o: Order) -> u64
     ensures { result ≡ second_source o }
 {

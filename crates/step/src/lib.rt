@@ -22,7 +22,7 @@ use machine::{Machine, Order, Refusal};
 use order::{Change, Outcome, Positions, Sources, apply};
 pub use words::step_words;
 
-// What an order does to a record, by what it has found there.
+// What an order does to a record, by what it has found there. One `match`, since each way takes other fields and other runs.
 pub fn decide(
     found: Found,
     o: Order,

@@ -14,7 +14,8 @@ pub enum Way {
     Open { x: u64 },
 }
 
-// The way of an order, by what it has found of a record.
+// The way of an order, by what it has found of a record. The kinds hold other fields each, so the one `match` that takes them out calls
+// their functions too.
 pub fn way_of(s: Sources, o: Order) -> Way
     requires { (m : Machine) × (s ≡ sources_in m o) }
     ensures { (m : Machine) → s ≡ sources_in m o → Takes o m result }

@@ -1,4 +1,4 @@
-// One order on a record in words, which is changed where it stands.
+// One order on a record in words, which is changed where it stands. The seven runs stay slices side by side: C lends them so.
 ghost use Rattle.std.specs.Prelude.{◌≡◌};
 ghost use Rattle.gate.specs.Lent.{at_entry_mut, at_exit};
 ghost use Rattle.machine.specs.Registers.{sound};
@@ -13,7 +13,8 @@ use layout::{CHANNELS_AT, DEALER_AT, MASKS_AT, register_at, write_change};
 use machine::{Answer, Machine, Order};
 use order::{Positions, Sources, answer};
 
-// The step of 83 words that say a record, sound or not as `sure` tells.
+// The step of 83 words that say a record, sound or not as `sure` tells: its callers know that already, and a refusal for it is the
+// order's, after which the words stand.
 pub fn step_words(
     sure: bool,
     o: Order,

@@ -1,12 +1,14 @@
 -- Two sources, as they are read one after the other.
 use Prim.Native.Nat.{ℕ}
 use mathlib.Core.Bool.{Bool, cond, false, true, not, ◌||◌}
-use mathlib.Core.Path.{◌≡◌, ap, ap₂, sym, ◌∙◌}
-use borrow.Author.Tests.{eq-eqb, ne_eqb}
+use mathlib.Core.Path.{◌≡◌, refl, ap, ap₂, sym, ◌∙◌}
 use lib.Dec.{eqb}
 use Rattle.gate.specs.declared.sharing.Sharing.{Sharing}
 use Rattle.ring.specs.Rings.{width_of}
+use denote.Enum.Bare.{sameb}
+use Rattle.ring.specs.contracts.rings.Ring.{the_type}
 use Rattle.ring.specs.declared.rings.Ring.{Ring}
+use Rattle.ring.specs.declared.rings.Ring.TheVariants.{R13, R31, R61}
 use Rattle.machine.specs.Checks.{a_number, first_met, is_empty, two_numbers}
 use Rattle.machine.specs.Registers.{kind_of}
 use Rattle.machine.specs.declared.answers.Refusal.{Refusal}
@@ -37,11 +39,23 @@ right_refused x Empty r s w is f e = let z = sym f ∙ ap (λ (x : Register). is
 right_refused x (Number q t) r s w is f e = let z = sym (ap (λ (n : ℕ). eqb n 0) e) ∙ numbered w in cc
 right_refused x (Bits k t) r s w is f e = rw is e
 
+-- rings are told apart as their widths are
+widths : (r q : Ring) → eqb (width_of r) (width_of q) ≡ sameb the_type r q
+widths R13 R13 = refl
+widths R13 R31 = refl
+widths R13 R61 = refl
+widths R31 R13 = refl
+widths R31 R31 = refl
+widths R31 R61 = refl
+widths R61 R13 = refl
+widths R61 R31 = refl
+widths R61 R61 = refl
+
 -- two numbers
-ranked : (x y : Register) (r q : Ring) (s t : Sharing) (b : Bool) {v w : ℕ} → x ≡ Number r s → y ≡ Number q t
-    → v ≡ width_of r → w ≡ width_of q → eqb v w ≡ b → first_met (two_numbers (kind_of x) (kind_of y)) ≡ cond (not b) 6 0
+ranked : (x y : Register) (r q : Ring) (s t : Sharing) {n b : Bool} → x ≡ Number r s → y ≡ Number q t
+    → n ≡ not (sameb the_type r q) → n ≡ b → cond b 6 0 ≡ first_met (two_numbers (kind_of x) (kind_of y))
 unfolding first_met
-ranked x y r q s t b left right wide broad h = rw (left, right, sym wide, sym broad, h)
+ranked x y r q s t left right is h = rw (left, right, widths r q, sym is, h)
 
 pub returns-then-is_empty-clause-refusal : goal.returns-then-is_empty-clause-refusal
 returns-then-is_empty-clause-refusal c = met 3 _ (search both)
@@ -55,10 +69,10 @@ returns-in_err-q-clause-refusal c =
     passed_on _ _ c.from_residual-in_err-q.ensures.1
     (right_refused c.args.x c.args.y _ _ _ c.in_ok-r.ensures.found (search both) c.in_err-q.ensures.refusal)
 
-pub returns-then-width-clause-refusal : goal.returns-then-width-clause-refusal
-returns-then-width-clause-refusal c =
-    sym (ranked _ _ _ _ _ _ false c.in_ok-r.ensures.found c.in_ok-q.ensures.found c.width.ensures c.width-2.ensures (ne_eqb _ _ c.if-width.true))
+pub returns-then-ne-clause-refusal : goal.returns-then-ne-clause-refusal
+returns-then-ne-clause-refusal c =
+    ranked _ _ _ _ _ _ c.in_ok-r.ensures.found c.in_ok-q.ensures.found c.ne.ensures c.if-ne.true
 
 pub returns-clause-refusal : goal.returns-clause-refusal
 returns-clause-refusal c =
-    sym (ranked _ _ _ _ _ _ true c.in_ok-r.ensures.found c.in_ok-q.ensures.found c.width.ensures c.width-2.ensures (eq-eqb _ _ c.if-width.false))
+    ranked _ _ _ _ _ _ c.in_ok-r.ensures.found c.in_ok-q.ensures.found c.ne.ensures c.if-ne.false
