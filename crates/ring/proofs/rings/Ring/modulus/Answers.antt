@@ -1,10 +1,15 @@
--- A one moved up by the width is its power of two.
-use native.Mathlib.Omega.{arith}
-use Rattle.ring.specs.Rings.{modulus, width_of}
-use Rattle.ring.proofs.RangeLaw.{width_le}
-use Rattle.ring.proofs.WordLaw.{shifted_one}
+-- Each ring's constant is the definition's number.
+use Rattle.ring.specs.Rings.{modulus}
 use Rattle.ring.proofs.rings.Ring.modulus.Goals as goal
 
-pub returns : goal.returns
+pub returns-in-R13 : goal.returns-in-R13
 unfolding modulus
-returns c = rw (c.width.ensures, shifted_one (width_of c.args.self) (omega (arith, width_le c.args.self)))
+returns-in-R13 c = rw c.in-R13.is
+
+pub returns-in-R31 : goal.returns-in-R31
+unfolding modulus
+returns-in-R31 c = rw c.in-R31.is
+
+pub returns-in-R61 : goal.returns-in-R61
+unfolding modulus
+returns-in-R61 c = rw c.in-R61.is
