@@ -45,6 +45,7 @@ impl Ring {
     }
 
     // p = 2^e - 1. A shift by `self.width()` would make the check of a record slower by an eighth.
+    #[tactic(auto, unfolding(crate::specs::Rings::modulus))]
     pub fn modulus(self) -> u64
         ensures { result ≡ modulus_of self }
     {
