@@ -1,26 +1,16 @@
 -- Invariant: j gates ran for each figure, and j + 1 planes of carries are known.
-use mathlib.Core.Path.{◌≡◌, ap, subst, sym, ◌∙◌}
+use mathlib.Core.Path.{◌≡◌, ap, sym, ◌∙◌}
 use native.Mathlib.Omega.{arith}
 use Rattle.gate.specs.declared.sharing.Sharing.{Sharing}
 use Rattle.circuit.specs.Decompose.{carry_gate}
 use Rattle.circuit.specs.Sharings.{zeros}
 use Rattle.circuit.proofs.LoanLaw.{room_later, sends_then}
 use Rattle.decompose.specs.Words.{digits_of}
-use Rattle.planes.specs.Planes.{MajorityWords, columns, with_planes, words_xor}
+use Rattle.planes.specs.Planes.{columns, with_planes}
 use Rattle.planes.specs.declared.places.Planes.{Planes}
 use Rattle.lanes.proofs.GateLaw.{each_more, each_none, nothing_sent, one_sent}
 use Rattle.lanes.proofs.StageLaw.{no_planes, takes_carry}
 use Rattle.lanes.proofs.stages.carry_lanes.Goals as goal
-
--- one sub-share of b, and the rest of n
-abbrev alone_0 : Sharing → Sharing → Sharing
-alone_0 n b = record { s0 = b.s0; s1 = n.s1; s2 = n.s2 }
-
-abbrev alone_1 : Sharing → Sharing → Sharing
-alone_1 n b = record { s0 = n.s0; s1 = b.s1; s2 = n.s2 }
-
-abbrev alone_2 : Sharing → Sharing → Sharing
-alone_2 n b = record { s0 = n.s0; s1 = n.s1; s2 = b.s2 }
 
 pub loop-j-init : goal.loop-j-init
 loop-j-init c =
@@ -41,11 +31,9 @@ pub loop-j-preserved : goal.loop-j-preserved
 loop-j-preserved c =
     let head = c.loop-j in
     let now = c.store-in-loop-j in
-    let sent = subst (λ (n : Sharing). MajorityWords (alone_0 n c.at-b.result) (alone_1 n c.at-b.result) (alone_2 n c.at-b.result) c.items-t.result c.majority_words-z.result)
-    c.zeros-none.ensures c.majority_words-z.ensures in
     let takes = takes_carry head.j c.args.x.now head.q now.new.self c.at-b.result c.items-t.result c.majority_words-z.result c.bitxor.result
-    (omega (arith, c.loop-j-test.true, c.requires.count)) now.ensures.whole c.at-b.ensures.is sent
-    (c.bitxor.ensures ∙ ap (λ (n : Sharing). words_xor (alone_2 n c.at-b.result) c.majority_words-z.result) c.zeros-none.ensures) now.ensures.is in
+    (omega (arith, c.loop-j-test.true, c.requires.count)) now.ensures.whole c.at-b.ensures.is (rw c.zeros-none.ensures at c.majority_words-z.ensures)
+    (rw c.zeros-none.ensures at c.bitxor.ensures) now.ensures.is in
     let room = room_later head.j 1 (omega (arith, c.loop-j-test.true)) c.requires.room head.invariant in
     sends_then head.invariant (one_sent c.items-t.ensures room c.send.ensures)
     (λ ran one kept. each_more carry_gate head.j ran (one.on takes) kept)
