@@ -17,7 +17,8 @@ fn beyond(p: u64, w: u64) -> u64
     w | ((w | TOP) - p)
 }
 
-// Whether one of the first n items of the three tapes is p or more, the three by one index: a zip of zips is no plainer. No item is tested by itself, so time does not tell which.
+// Whether one of the first n items of the three tapes is p or more. No item is tested by itself, so time does not tell which.
+// The tapes are read by one index: a zip of zips is no plainer.
 pub fn any_outside(p: u64, n: u64, m0: &[u64], m1: &[u64], m2: &[u64]) -> bool
     requires modulus { p ≤ 2 ^ 63 }
     requires long { Long n m0.now m1.now m2.now }

@@ -9,11 +9,8 @@ use lib.Seq.{drop-drop}
 use Rattle.gate.specs.Places.{Below, Place, tabled}
 use Rattle.gate.proofs.PlaceLaw.{tabled-at}
 use Rattle.gate.proofs.Theorems.{words_fit}
+pub use Rattle.circuit.specs.Loans.{drops}
 use Rattle.circuit.specs.Circuits.{Gate, after, ends, heads, sent, tails, upto, words}
-
--- the tapes after n gates
-abbrev pub drops : ℕ → (Place → List ℕ) → Place → List ℕ
-drops n T = λ i. drop n (T i)
 
 drops-tails : (n : ℕ) (T : Place → List ℕ) → drops n (tails T) ≡ drops (suc n) T
 drops-tails n T = fun_ext (λ i. ap (drop n) (tabled-at (λ j. drop 1 (T j)) i) ∙ drop-drop n 1 (T i) ∙ ap (λ (k : ℕ). drop k (T i)) (one-add n))

@@ -16,8 +16,8 @@ abbrev pub channels : Lent → Place → List ℕ
 channels v = three v.c0.now v.c1.now v.c2.now
 
 -- the part of each from a position on
-abbrev pub from : ℕ → (Place → List ℕ) → Place → List ℕ
-from k r = λ i. drop k (r i)
+abbrev pub drops : ℕ → (Place → List ℕ) → Place → List ℕ
+drops k r = λ i. drop k (r i)
 
 -- n gates more have items and room
 pub record Room (n : ℕ) (v : Lent) : Type 0 where
@@ -50,7 +50,7 @@ pub record Same (v w : Lent) : Type 0 where
 
 -- n gates are done: P of the tapes, and of the channels before and after, all from the position on
 pub record Sends (n : ℕ) (P : (T c d : Place → List ℕ) → Type 0) (v w : Lent) : Type 0 where
-  pub ahead : P (from v.at (tapes v)) (from v.at (channels v)) (from v.at (channels w))
+  pub ahead : P (drops v.at (tapes v)) (drops v.at (channels v)) (drops v.at (channels w))
   pub at : w.at ≡ v.at + n
   pub same : Same v w
 

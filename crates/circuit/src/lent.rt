@@ -18,6 +18,7 @@ pub struct Lent<'a> {
 
 impl Lent<'_> {
     // The next item of each mask tape.
+    #[inline(always)]
     pub fn items(&self) -> Sharing
         requires { Room 1 self.now }
         ensures { result ≡ items_next self.now }
@@ -30,6 +31,7 @@ impl Lent<'_> {
     }
 
     // The next word of each channel: one gate is done.
+    #[inline(always)]
     pub fn send(&mut self, z: Sharing)
         requires { Room 1 self.old }
         ensures { Sends 1 (words_sent z) self.old self.new }
@@ -41,6 +43,7 @@ impl Lent<'_> {
     }
 
     // One gate: its words, from the next items, are sent.
+    #[inline(always)]
     pub fn gate<F: FnOnce(Sharing) -> Sharing>(&mut self, words: F) -> Sharing
         requires room { Room 1 self.old }
         requires words { F.pre words (items_next self.old) }

@@ -9,6 +9,7 @@ use gate::{Sharing, ring_words};
 use ring::Ring;
 
 // Order 4: one gate, whose words are the new sub-shares.
+#[inline(always)]
 pub fn multiply(r: Ring, x: Sharing, y: Sharing, lent: &mut Lent<'_>) -> Sharing
     requires left { InRange (modulus_of r) x }
     requires right { InRange (modulus_of r) y }

@@ -45,6 +45,7 @@ fn from_carries(x: Sharing, carries: Sharing, l: u64, lent: &mut Lent<'_>) -> Sh
 }
 
 // Decomposes a into l bits: 3l + 1 gates.
+#[inline(always)]
 pub fn decompose(r: Ring, a: Sharing, l: u64, lent: &mut Lent<'_>) -> Sharing
     requires source { InRange (modulus_of r) a }
     requires count { (1 ≤ l) × (l + 2 ≤ width_of r) }

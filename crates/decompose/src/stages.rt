@@ -14,6 +14,7 @@ use circuit::{Lent, zeros};
 use gate::Sharing;
 
 // (i) The carries: n gates.
+#[inline(always)]
 pub fn carry_stage(x: Sharing, n: u64, lent: &mut Lent<'_>) -> Sharing
     requires count { n < 63 }
     requires supplied { Supplied 2 n lent.old }
@@ -27,6 +28,7 @@ pub fn carry_stage(x: Sharing, n: u64, lent: &mut Lent<'_>) -> Sharing
 }
 
 // (ii) The running carries: n gates, from bit 1 on.
+#[inline(always)]
 pub fn running_stage(x: Sharing, carries: Sharing, n: u64, lent: &mut Lent<'_>) -> Sharing
     requires count { n < 62 }
     requires supplied { Supplied 2 n lent.old }
@@ -43,6 +45,7 @@ pub fn running_stage(x: Sharing, carries: Sharing, n: u64, lent: &mut Lent<'_>) 
 }
 
 // (iv) The carries of the increment from the first, which is given: n gates.
+#[inline(always)]
 pub fn raising_stage(total: Sharing, first: Sharing, n: u64, lent: &mut Lent<'_>) -> Sharing
     requires count { n < 62 }
     requires first { InRange 2 first }

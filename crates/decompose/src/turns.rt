@@ -29,6 +29,7 @@ fn majority(x: Sharing, y: Sharing, c: Sharing, lent: &mut Lent<'_>) -> Sharing
 }
 
 // Carry j + 1, from bits j of x_0, x_1 and x_2, each known at one place.
+#[inline(always)]
 pub fn carry_turn(x: Sharing, carries: Sharing, j: u64, lent: &mut Lent<'_>) -> Sharing
     requires bit { j < 63 }
     requires words { InRange (2 ^ (j + 1)) carries }
@@ -57,6 +58,7 @@ pub fn carry_turn(x: Sharing, carries: Sharing, j: u64, lent: &mut Lent<'_>) -> 
 }
 
 // Running carry j + 1, from sum bit, carry and running carry j, which is the last.
+#[inline(always)]
 pub fn running_turn(
     x: Sharing,
     carries: Sharing,
@@ -77,6 +79,7 @@ pub fn running_turn(
 }
 
 // z = T0 OR T1, the first carry of the increment.
+#[inline(always)]
 pub fn zero_turn(total: Sharing, lent: &mut Lent<'_>) -> Sharing
     requires supplied { Supplied 2 1 lent.old }
     ensures ran { (x carries running : Sharing) → total ≡ totalled x carries running →
@@ -90,6 +93,7 @@ pub fn zero_turn(total: Sharing, lent: &mut Lent<'_>) -> Sharing
 }
 
 // Carry j + 1 of the increment, from bit j + 2 of T and carry j, which is the last.
+#[inline(always)]
 pub fn raising_turn(total: Sharing, last: Sharing, j: u64, lent: &mut Lent<'_>) -> Sharing
     requires bit { j < 62 }
     requires last { InRange 2 last }

@@ -1,4 +1,4 @@
-// Order 9: a register's value goes out.
+// Order 9: a register's value goes out. The three channels stay slices side by side: C lends them so, one by one.
 ghost use Rattle.std.specs.Prelude.{[], ◌∷◌, ◌≡◌, ◌<◌, length};
 ghost use Rattle.gate.specs.Lent.{at_entry_mut, at_exit};
 ghost use Rattle.gate.specs.Places.{next, parts, tabled, three};

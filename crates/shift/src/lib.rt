@@ -14,6 +14,7 @@ use gate::Sharing;
 use ring::Ring;
 
 // Order 7: all e - 2 bits, and then those from s up: 3(e-2) + 1 gates on bits, 2(e-2-s) in the ring.
+#[inline(always)]
 pub fn shift(r: Ring, a: Sharing, s: u64, lent: &mut Lent<'_>) -> Sharing
     requires source { InRange (modulus_of r) a }
     requires shift { s + 3 ≤ width_of r }

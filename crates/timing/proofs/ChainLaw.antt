@@ -72,9 +72,12 @@ module _ (p : ℕ) (x y : Sharing) (items : List ℕ) (c : Place → List ℕ) w
     ended : chain p y items (length (c p0) - i) i z ≡ [] → Ran (chain p y items (length (c p0)) 0 x) i c d
     ended e = rw (r.whole, e, append-nil) r.ran
 
-    pub full : length (c p0) ≤ i → Ran (chain p y items (length (c p0)) 0 x) i c d
+    pub full : length (c p0) ≡ i → Ran (chain p y items (length (c p0)) 0 x) (length (c p0)) c d
     unfolding chain
-    full h = let none : length (c p0) - i ≡ 0 = omega arith in ended (rw none)
+    full all =
+        let none : length (c p0) - i ≡ 0 = omega arith in
+        let ran = ended (rw none) in
+        record { answers = all ∙ ran.answers; channels = ran.channels }
 
     pub stopped : {t : Sharing} → i < length (c p0) → t ≡ triple_at items (3 * i) → in_range p t ≡ false
         → Ran (chain p y items (length (c p0)) 0 x) i c d

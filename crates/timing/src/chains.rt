@@ -56,7 +56,8 @@ fn run_chain(
     ensures { Ran (chain p y items.now (length c0.old) 0 x) result (at_entry_mut c0 c1 c2) (at_exit c0 c1 c2) }
 {
     let mut z = x;
-    for i in 0..c0.len() {
+    let n = c0.len();
+    for i in 0..n {
         let t = triple(items, 3 * i);
         if !in_range(p, t) {
             return i;
@@ -64,7 +65,7 @@ fn run_chain(
         z = ring_words(e, p, z, y, t);
         send(z, &mut c0[i..], &mut c1[i..], &mut c2[i..]);
     }
-    c0.len()
+    n
 }
 
 // The chain from x, where x and y are in range.

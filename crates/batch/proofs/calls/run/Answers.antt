@@ -1,15 +1,8 @@
 use native.Mathlib.Omega.{arith}
 use Rattle.ring.specs.Rings.{width_of}
-use Rattle.ring.proofs.RangeLaw.{width_le}
 use Rattle.gate.specs.Places.{three}
 use Rattle.batch.proofs.CodeLaw.{performed_is}
 use Rattle.batch.proofs.calls.run.Goals as goal
-
-pub overflow_mul-result : goal.overflow_mul-result
-overflow_mul-result c = omega (arith, c.requires.count.1, width_le c.args.r)
-
-pub overflow_add-result : goal.overflow_add-result
-overflow_add-result c = omega (arith, c.requires.count.1, width_le c.args.r)
 
 pub returns : goal.returns
 returns c =

@@ -1,20 +1,14 @@
 -- The verdict is the first of the checks that is met.
 use mathlib.Core.Bool.{not}
 use mathlib.Core.Path.{ap}
-use Prim.Native.Nat.{ℕ, ◌≤◌}
+use Prim.Native.Nat.{ℕ}
 use mathlib.Core.List.{List}
 use native.Mathlib.Omega.{arith}
-use borrow.Author.Tests.{leb-true}
-use lib.Dec.{leb}
 use Rattle.gate.specs.Places.{Place, three}
 use Rattle.attempt.specs.Lengths.{lengths_told}
-use Rattle.ring.proofs.RangeLaw.{modulus-lt, width_ge, width_le}
-use Rattle.machine.proofs.KindLaw.{right_true}
+use Rattle.ring.proofs.RangeLaw.{modulus-lt}
 use Rattle.batch.proofs.CodeLaw.{bits_met, lengths-left, share_met}
 use Rattle.batch.proofs.checks.figures_why.Goals as goal
-
-pub overflow_sub-most : goal.overflow_sub-most
-overflow_sub-most c = omega (arith, c.width-most.ensures, width_ge c.args.r)
 
 pub any_outside-requires : goal.any_outside-requires
 any_outside-requires c =
@@ -22,13 +16,6 @@ any_outside-requires c =
       modulus = omega (arith, c.modulus-p.ensures, modulus-lt c.args.r);
       long = record { zero = omega (arith, c.requires.0); one = omega (arith, c.requires.1); two = omega (arith, c.requires.2) };
     }
-
--- l is at most e - 2, so below 60
-few : (c : goal.Else-any_outside) → c.args.l ≤ 59
-few c =
-    let l = c.args.l in
-    let within = leb-true l _ (right_true (leb 1 l) _ (c.if-not-l-most.false)) in
-    omega (arith, within, c.width-most.ensures, width_le c.args.r)
 
 pub returns-then-not-l-most : goal.returns-then-not-l-most
 returns-then-not-l-most c =
@@ -52,11 +39,3 @@ returns c =
     let lent = lengths_told a.len in
     lengths-left a.r a.l shares lent c.width-most.ensures c.modulus-p.ensures
     (ap not c.if-not-l-most.false) c.any_outside.ensures c.if-any_outside.false c.room.ensures
-
-pub overflow_mul-l : goal.overflow_mul-l
-overflow_mul-l c =
-    omega (arith, few c)
-
-pub overflow_add-l : goal.overflow_add-l
-overflow_add-l c =
-    omega (arith, few c)

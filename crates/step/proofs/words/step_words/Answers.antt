@@ -27,12 +27,6 @@ finds : {s : Bool} (o : Order) {ws : List ℕ} {x y : ℕ} {a b : Register}
     → record { sources = record { sound = s; a = a; b = b }; at = record { masks = get_or ws 80 0; channels = get_or ws 81 0; dealer = get_or ws 82 0 } } ≡ found_in m o
 finds {s} o {ws} ex ha ey hb m says is = found_in_lem m o ws says is ex (ha m says) ey (hb m says)
 
-pub register_at-requires : goal.register_at-requires
-register_at-requires c = (c.requires.0, c.requires.1)
-
-pub register_at-requires-2 : goal.register_at-requires-2
-register_at-requires-2 c = (c.requires.0, c.requires.1)
-
 pub bounds-record-80 : goal.bounds-record-80
 bounds-record-80 c = let n = says_length c.requires.1 in omega arith
 

@@ -1,6 +1,6 @@
 -- Invariant: gate i is reached.
 use Prim.Native.Nat.{◌-◌}
-use mathlib.Core.Path.{◌≡◌, ◌∙◌, refl}
+use mathlib.Core.Path.{◌∙◌, refl}
 use native.Mathlib.Omega.{arith}
 use borrow.Rule.Slice.PartMut.{mid_len, same_len_mid}
 use lib.ListN.{length}
@@ -49,6 +49,4 @@ loop-i-preserved c =
     )
 
 pub returns : goal.returns
-returns c =
-    let all : c.loop-i.i ≡ length c.loop-i.c0 = omega arith in
-    rw (← all) (full _ _ _ _ _ c.loop-i.invariant.4 (omega arith))
+returns c = full _ _ _ _ _ c.loop-i.invariant.4 (omega arith)
