@@ -21,7 +21,7 @@ const COUNT: usize = 64;
 pub fn not_count(n0: usize, n1: usize, n2: usize) -> bool
     ensures { result ≡ not_count (three n0 n1 n2) }
 {
-    !((n0 == COUNT) & ((n1 == COUNT) & (n2 == COUNT)))
+    [n0, n1, n2] != [COUNT; 3]
 }
 
 // The ring of a batch: 13 has none. 02 names its two widths, which `Ring::of_width` with one taken away would not show.
