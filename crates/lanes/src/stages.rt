@@ -11,7 +11,7 @@ use circuit::{Lent, zeros};
 use gate::{Sharing, bit_words};
 use planes::{Planes, majority_words};
 
-// (i) The carries: n gates.
+// (i) The carries: n gates. Each of x's three bits is known at one place alone, another at each, so no map makes them.
 pub fn carry_lanes(x: &Planes, n: usize, lent: &mut Lent<'_>, q: &mut Planes)
     requires count { n < 63 }
     requires room { Room n lent.old }
