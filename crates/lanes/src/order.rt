@@ -1,4 +1,4 @@
-// Order 5 for 64 figures at once.
+// Order 5 for 64 figures at once. Figures, masks, channels and results stay slices: C lends them so.
 ghost use Rattle.std.specs.Prelude.{◌≡◌, ◌+◌, ◌*◌, ◌<◌, ◌≤◌, length};
 ghost use Rattle.ring.specs.Rings.{modulus_of, width_of};
 ghost use Rattle.gate.specs.Lent.{at_entry, at_entry_mut, at_exit};
@@ -49,7 +49,7 @@ fn work(x: &mut Planes, l: usize, e: usize, lent: &mut Lent<'_>)
     increment(&s, l, e, lent, x);
 }
 
-// Decomposes figure k into l bits for each k, with bit k of each item: 3l + 1 gates.
+// Decomposes figure k into l bits for each k, with bit k of each item: 3l + 1 gates. The ring's width counts planes here.
 pub fn decompose_lanes(
     r: Ring,
     l: usize,

@@ -11,7 +11,7 @@ use circuit::{Lent, zeros};
 use gate::{Sharing, bit_words};
 use planes::{Planes, majority_words};
 
-// (i) The carries: n gates.
+// (i) The carries: n gates. Each of x's three bits is known at one place alone, another at each, so no map makes them.
 pub fn carry_lanes(x: &Planes, n: usize, lent: &mut Lent<'_>, q: &mut Planes)
     requires count { n < 63 }
     requires room { Room n lent.old }
@@ -21,12 +21,10 @@ pub fn carry_lanes(x: &Planes, n: usize, lent: &mut Lent<'_>, q: &mut Planes)
     q.store(0, none);
     for j in 0..n {
         let b = x.at(j);
-        let t = lent.items();
         let first = Sharing { s0: b.s0, ..none };
         let second = Sharing { s1: b.s1, ..none };
         let third = Sharing { s2: b.s2, ..none };
-        let z = majority_words(first, second, third, t);
-        lent.send(z);
+        let z = lent.gate(|t| majority_words(first, second, third, t));
         q.store(j + 1, third ^ z);
     }
 }
@@ -42,9 +40,7 @@ pub fn running_lanes(x: &Planes, n: usize, lent: &mut Lent<'_>, s: &mut Planes)
     for i in 0..n {
         let b = x.at(i + 1);
         let u = s.at(i + 1);
-        let t = lent.items();
-        let z = majority_words(b, u, last, t);
-        lent.send(z);
+        let z = lent.gate(|t| majority_words(b, u, last, t));
         total_in(x, s, i + 1, last);
         last = last ^ z;
     }
@@ -58,9 +54,7 @@ pub fn zero_lanes(s: &Planes, lent: &mut Lent<'_>) -> Sharing
 {
     let left = s.at(0);
     let right = s.at(1);
-    let t = lent.items();
-    let z = bit_words(left, right, t);
-    lent.send(z);
+    let z = lent.gate(|t| bit_words(left, right, t));
     left ^ right ^ z
 }
 
@@ -75,9 +69,7 @@ pub fn raising_lanes(s: &Planes, first: Sharing, n: usize, lent: &mut Lent<'_>, 
     let mut carry = first;
     for j in 0..n {
         let b = s.at(j + 2);
-        let t = lent.items();
-        let z = bit_words(b, carry, t);
-        lent.send(z);
+        let z = lent.gate(|t| bit_words(b, carry, t));
         o.store(j, b ^ carry);
         carry = z;
     }

@@ -109,8 +109,9 @@ impl Machine {
     }
 }
 
-// Each sub-share below m. By place: three tests by `map` would need a test of the three results besides.
-pub fn in_range(m: u64, x: Sharing) -> bool
+// Each sub-share below m. By place: three tests by `map` would need a test of the three results besides. timing, which stands below
+// machine, has one of its own.
+fn in_range(m: u64, x: Sharing) -> bool
     ensures { result ≡ shares_below m x }
 {
     (x.s0 < m) & ((x.s1 < m) & (x.s2 < m))

@@ -19,7 +19,7 @@ pub struct Planes {
 }
 
 impl Planes {
-    // All 0.
+    // All 0. Not derived: std has no `Default` for arrays of 64.
     pub fn new() -> Planes
         ensures { NoPlanes 0 result }
     {
@@ -30,7 +30,8 @@ impl Planes {
         }
     }
 
-    // Plane j of the three places.
+    // Plane j of the three places. Here and below they are written out: an array of three arrays would be indexed at each all the
+    // same, and C lends words and results place by place, as slices.
     pub fn at(&self, j: usize) -> Sharing
         requires { j < 64 }
         ensures is { result ≡ planes_at j self.now }

@@ -1,4 +1,4 @@
-// A chain of gates in a ring, each from the last one's sharing.
+// A chain of gates in a ring, each from the last one's sharing. The channels stay three slices: C lends them so.
 ghost use Rattle.std.specs.Prelude.{◌≡◌, ◌+◌, ◌*◌, ◌≤◌, length};
 ghost use Rattle.gate.specs.Lent.{at_entry_mut, at_exit};
 ghost use Rattle.gate.specs.Places.{InRange};
@@ -10,7 +10,7 @@ use crate::products::same_lengths;
 use gate::{Sharing, ring_words, send};
 use ring::Ring;
 
-// The three words of ws at `at` and on.
+// The three words of ws at `at` and on. By place: a slice pattern would need an arm for fewer than three, which cannot be.
 fn triple(ws: &[u64], at: usize) -> Sharing
     requires { at + 3 ≤ length ws.now }
     ensures { result ≡ triple_at ws.now at }
@@ -22,7 +22,7 @@ fn triple(ws: &[u64], at: usize) -> Sharing
     }
 }
 
-// Whether each word of s is below p.
+// Whether each word of s is below p. machine has this test of its own: what bench times stands on ring and gate, and on no machine.
 #[tactic(auto, unfolding(crate::specs::Chains::in_range))]
 fn in_range(p: u64, s: Sharing) -> bool
     ensures { result ≡ in_range p s }
@@ -30,7 +30,7 @@ fn in_range(p: u64, s: Sharing) -> bool
     (s.s0 < p) & (s.s1 < p) & (s.s2 < p)
 }
 
-// Whether the lengths fit: three words of x and of y, three items a gate.
+// Whether the lengths fit: three words of x and of y, three items a gate. No one comparison: each length has its own measure.
 #[tactic(auto, unfolding(crate::specs::Chains::shaped))]
 fn lengths_fit(x: usize, y: usize, items: usize, n0: usize, n1: usize, n2: usize) -> bool
     ensures { result ≡ shaped x y items n0 n1 n2 }
@@ -89,7 +89,7 @@ fn start_chain(
     0
 }
 
-// A chain of gates in the ring of a width; answers how many were done.
+// A chain of gates in the ring of a width; answers how many were done, as C reads it.
 #[unsafe(no_mangle)]
 pub extern "C" fn timing_gate(
     width: u64,
@@ -103,15 +103,13 @@ pub extern "C" fn timing_gate(
     ensures is { Ran (gates width x.now y.now items.now (at_entry_mut c0 c1 c2)) result (at_entry_mut c0 c1 c2) (at_exit c0 c1 c2) }
     ensures lent { Stands x × Stands y × Stands items }
 {
-    match Ring::of_width(width) {
-        Some(r) => {
-            if lengths_fit(x.len(), y.len(), items.len(), c0.len(), c1.len(), c2.len()) {
-                let from = triple(x, 0);
-                let by = triple(y, 0);
-                return start_chain(r, from, by, items, c0, c1, c2) as u64;
-            }
-            0
-        }
-        None => 0,
+    let Some(r) = Ring::of_width(width) else {
+        return 0;
+    };
+    if !lengths_fit(x.len(), y.len(), items.len(), c0.len(), c1.len(), c2.len()) {
+        return 0;
     }
+    let from = triple(x, 0);
+    let by = triple(y, 0);
+    start_chain(r, from, by, items, c0, c1, c2) as u64
 }

@@ -6,7 +6,7 @@ ghost use Rattle.timing.specs.Products.{alike, multiplied, outcome, product, pro
 
 use ring::{Ring, mul_mod};
 
-// Whether both lengths are n.
+// Whether both lengths are n: of three slices or channels in turn, so it takes their lengths and not them.
 pub fn same_lengths(a: usize, b: usize, n: usize) -> bool
     ensures { result ≡ alike a b n }
 {
@@ -38,20 +38,18 @@ fn multiply_all(r: Ring, xs: &[u64], ys: &[u64], zs: &mut [u64])
     }
 }
 
-// Products in the ring of a width, for slices of one length; answers how many.
+// Products in the ring of a width, for slices of one length; answers how many, as C reads it.
 #[unsafe(no_mangle)]
 pub extern "C" fn timing_multiply(width: u64, xs: &[u64], ys: &[u64], zs: &mut [u64]) -> u64
     ensures is { outcome result zs.new ≡ multiplied width xs.now ys.now zs.old }
     ensures lent { Stands xs × Stands ys }
 {
-    match Ring::of_width(width) {
-        Some(r) => {
-            if same_lengths(xs.len(), ys.len(), zs.len()) {
-                multiply_all(r, xs, ys, zs);
-                return zs.len() as u64;
-            }
-            0
-        }
-        None => 0,
+    let Some(r) = Ring::of_width(width) else {
+        return 0;
+    };
+    if !same_lengths(xs.len(), ys.len(), zs.len()) {
+        return 0;
     }
+    multiply_all(r, xs, ys, zs);
+    zs.len() as u64
 }

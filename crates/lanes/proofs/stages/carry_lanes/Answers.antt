@@ -1,12 +1,14 @@
 -- Invariant: j gates ran for each figure, and j + 1 planes of carries are known.
-use mathlib.Core.Path.{◌≡◌, ap, sym, ◌∙◌}
+use mathlib.Core.Path.{◌≡◌, ap, refl, sym, ◌∙◌}
 use native.Mathlib.Omega.{arith}
 use Rattle.gate.specs.declared.sharing.Sharing.{Sharing}
+use Rattle.std.proofs.Common.{rules}
 use Rattle.circuit.specs.Decompose.{carry_gate}
 use Rattle.circuit.specs.Sharings.{zeros}
+use Rattle.circuit.specs.Loans.{items_next}
 use Rattle.circuit.proofs.LoanLaw.{room_later, sends_then}
 use Rattle.decompose.specs.Words.{digits_of}
-use Rattle.planes.specs.Planes.{columns, with_planes}
+use Rattle.planes.specs.Planes.{MajorityWords, columns, with_planes}
 use Rattle.planes.specs.declared.places.Planes.{Planes}
 use Rattle.lanes.proofs.GateLaw.{each_more, each_none, nothing_sent, one_sent}
 use Rattle.lanes.proofs.StageLaw.{no_planes, takes_carry}
@@ -21,19 +23,20 @@ loop-j-init c =
     (λ k. ap (λ (w : Sharing). digits_of (columns 64 a.x.now k) w zeros zeros)
     (sym (ap (λ (p : Planes). columns 1 p k) first ∙ no_planes a.q.now k c.store.ensures.whole))))
 
-pub items-t-requires : goal.items-t-requires
-items-t-requires c = room_later c.loop-j.j 1 (omega (arith, c.loop-j-test.true)) c.requires.room c.loop-j.invariant
-
-pub send-requires : goal.send-requires
-send-requires c = room_later c.loop-j.j 1 (omega (arith, c.loop-j-test.true)) c.requires.room c.loop-j.invariant
+pub gate-z-requires-clause-room : goal.gate-z-requires-clause-room
+gate-z-requires-clause-room c = room_later c.loop-j.j 1 (omega (arith, c.loop-j-test.true)) c.requires.room c.loop-j.invariant
 
 pub loop-j-preserved : goal.loop-j-preserved
 loop-j-preserved c =
     let head = c.loop-j in
     let now = c.store-in-loop-j in
-    let takes = takes_carry head.j c.args.x.now head.q now.new.self c.at-b.result c.items-t.result c.majority_words-z.result c.bitxor.result
-    (omega (arith, c.loop-j-test.true, c.requires.count)) now.ensures.whole c.at-b.ensures.is (rw c.zeros-none.ensures at c.majority_words-z.ensures)
+    let b = c.at-b.result in
+    let none = c.zeros-none.result in
+    let words : MajorityWords (record { s0 = b.s0; s1 = none.s1; s2 = none.s2 }) (record { s0 = none.s0; s1 = b.s1; s2 = none.s2 })
+    (record { s0 = none.s0; s1 = none.s1; s2 = b.s2 }) (items_next head.lent) c.gate-z.result = search rules in
+    let takes = takes_carry head.j c.args.x.now head.q now.new.self c.at-b.result (items_next c.loop-j.lent) c.gate-z.result c.bitxor.result
+    (omega (arith, c.loop-j-test.true, c.requires.count)) now.ensures.whole c.at-b.ensures.is (rw c.zeros-none.ensures at words)
     (rw c.zeros-none.ensures at c.bitxor.ensures) now.ensures.is in
     let room = room_later head.j 1 (omega (arith, c.loop-j-test.true)) c.requires.room head.invariant in
-    sends_then head.invariant (one_sent c.items-t.ensures room c.send.ensures)
+    sends_then head.invariant (one_sent refl room c.gate-z.ensures.sent)
     (λ ran one kept. each_more carry_gate head.j ran (one.on takes) kept)

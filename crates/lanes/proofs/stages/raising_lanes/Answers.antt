@@ -1,6 +1,9 @@
 -- Invariant: j gates ran for each figure, and j planes of the result are there.
-use mathlib.Core.Path.{◌≡◌, ap, ◌∙◌}
+use mathlib.Core.Path.{◌≡◌, ap, refl, ◌∙◌}
 use native.Mathlib.Omega.{arith}
+use Rattle.std.proofs.Common.{rules}
+use Rattle.gate.specs.Words.{GateWords}
+use Rattle.circuit.specs.Loans.{items_next}
 use Rattle.circuit.proofs.LoanLaw.{room_later, sends_then}
 use Rattle.planes.specs.Planes.{with_planes}
 use Rattle.planes.proofs.PlaceLaw.{none_kept}
@@ -13,21 +16,19 @@ loop-j-init c =
     let a = c.args in
     (nothing_sent a.lent.now (rising_none a.n a.s.now a.first a.o.now), (λ e far none. none))
 
-pub items-t-requires : goal.items-t-requires
-items-t-requires c = room_later c.loop-j.j 1 (omega (arith, c.loop-j-test.true)) c.requires.room c.loop-j.invariant.0
-
-pub send-requires : goal.send-requires
-send-requires c = room_later c.loop-j.j 1 (omega (arith, c.loop-j-test.true)) c.requires.room c.loop-j.invariant.0
+pub gate-z-requires-clause-room : goal.gate-z-requires-clause-room
+gate-z-requires-clause-room c = room_later c.loop-j.j 1 (omega (arith, c.loop-j-test.true)) c.requires.room c.loop-j.invariant.0
 
 pub loop-j-preserved : goal.loop-j-preserved
 loop-j-preserved c =
     let head = c.loop-j in
     let a = c.args in
     let now = c.store in
+    let words : GateWords c.at-b.result head.carry (items_next head.lent) c.gate-z.result = search rules in
     let room = room_later head.j 1 (omega (arith, c.loop-j-test.true)) c.requires.room head.invariant.0 in (
-      sends_then head.invariant.0 (one_sent c.items-t.ensures room c.send.ensures)
-          (rising_more head.j a.n a.first a.s.now head.o now.new.self head.carry c.at-b.result c.items-t.result c.bit_words-z.result
-          c.loop-j-test.true c.requires.count now.ensures.whole c.at-b.ensures.is c.bit_words-z.ensures.figures
+      sends_then head.invariant.0 (one_sent refl room c.gate-z.ensures.sent)
+          (rising_more head.j a.n a.first a.s.now head.o now.new.self head.carry c.at-b.result (items_next c.loop-j.lent) c.gate-z.result
+          c.loop-j-test.true c.requires.count now.ensures.whole c.at-b.ensures.is words
           (now.ensures.is ∙ ap (with_planes head.o head.j) c.bitxor.ensures)),
       (λ e far none. none_kept head.o c.bitxor.result (omega (arith, c.loop-j-test.true, far)) now.ensures.is (head.invariant.1 e far none)),
     )
