@@ -15,15 +15,15 @@ pub struct Fields {
     pub value: u64,
 }
 
-// What the bytes of a line so far come to: its fields, if it can still be read, and whether there
-// was a byte.
+// What the bytes of a line so far come to: its fields, if it can still be read, and whether there was a byte. `seen` says nothing of the
+// fields: no byte, and no line, is a reading with fields too.
 #[derive(Clone, Copy)]
 pub struct Reading {
     pub fields: Option<Fields>,
     pub seen: bool,
 }
 
-// A reading, with the index of the byte that it stopped at.
+// A reading, with the index of the byte that it stopped at: a line may end in a later chunk, so no slice holds it.
 #[derive(Clone, Copy)]
 pub struct Taken {
     pub reading: Reading,
@@ -78,7 +78,7 @@ impl Fields {
         }
     }
 
-    // What they say, once the line has ended.
+    // What they say, once the line has ended. The arms hand on other fields, so no function is chosen here.
     #[tactic(auto, unfolding(crate::specs::Readings::said_by))]
     fn command(self) -> Command
         ensures { result ≡ said_by self }
@@ -96,7 +96,7 @@ impl Fields {
 }
 
 impl Reading {
-    // No byte yet.
+    // No byte yet. A derived Default would have no fields, as a line that cannot be read.
     pub fn start() -> Reading
         ensures { result ≡ read [] }
     {
@@ -129,7 +129,7 @@ impl Reading {
     }
 }
 
-// Reads from `at` up to the line's end or the buffer's, from what was read of the line before.
+// Reads from `at` up to the line's end or the buffer's, from what was read of the line before. The chunk stays whole, `at` moves on in it.
 pub fn take_line(buf: &[u8], at: usize, before: Reading) -> Taken
     ensures reading { result.reading ≡ read_on before (line_in (drop at buf.now)) }
     ensures stop { result.at ≡ at + length (line_in (drop at buf.now)) }
