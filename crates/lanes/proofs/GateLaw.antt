@@ -14,7 +14,7 @@ use Rattle.gate.proofs.PlaceLaw.{each}
 use Rattle.circuit.specs.Circuits.{Gate, upto}
 use Rattle.circuit.specs.Decompose.{Digits}
 use Rattle.circuit.specs.Lent.{Long, Turned}
-use Rattle.circuit.specs.Loans.{Room, Sends, channels, from, items_next, tapes, words_sent}
+use Rattle.circuit.specs.Loans.{Room, Sends, channels, items_next, tapes, words_sent}
 use Rattle.circuit.specs.Sharings.{items_at}
 use Rattle.circuit.specs.declared.lent.Lent.{Lent}
 use Rattle.circuit.proofs.LoanLaw.{ran_then}
@@ -65,7 +65,7 @@ unfolding upto
 each_more g n a b kept = rw (add-one n) (each_then (length-upto g n) a b kept)
 
 pub nothing_sent : {P : (T c d : Place → List ℕ) → Type 0} (v : Lent)
-    → P (from v.at (tapes v)) (from v.at (channels v)) (from v.at (channels v)) → Sends 0 P v v
+    → P (drops v.at (tapes v)) (drops v.at (channels v)) (drops v.at (channels v)) → Sends 0 P v v
 nothing_sent v holds =
     record {
       ahead = holds;
@@ -75,7 +75,7 @@ nothing_sent v holds =
 
 -- what follows from what was sent
 pub sends_of : {n : ℕ} {P Q : (T c d : Place → List ℕ) → Type 0} {v w : Lent} → Sends n P v w
-    → (P (from v.at (tapes v)) (from v.at (channels v)) (from v.at (channels w)) → Q (from v.at (tapes v)) (from v.at (channels v)) (from v.at (channels w)))
+    → (P (drops v.at (tapes v)) (drops v.at (channels v)) (drops v.at (channels w)) → Q (drops v.at (tapes v)) (drops v.at (channels v)) (drops v.at (channels w)))
     → Sends n Q v w
 sends_of a on = record { ahead = on a.ahead; at = a.at; same = a.same }
 

@@ -17,25 +17,14 @@ pub fn carry_lanes(x: &Planes, n: usize, lent: &mut Lent<'_>, q: &mut Planes)
     requires room { Room n lent.old }
     ensures { Sends n (EachRan (upto carry_gate n) (fresh x.now) (carried x.now q.new (n + 1))) lent.old lent.new }
 {
-    q.store(0, zeros());
+    let none = zeros();
+    q.store(0, none);
     for j in 0..n {
         let b = x.at(j);
         let t = lent.items();
-        let first = Sharing {
-            s0: b.s0,
-            s1: 0,
-            s2: 0,
-        };
-        let second = Sharing {
-            s0: 0,
-            s1: b.s1,
-            s2: 0,
-        };
-        let third = Sharing {
-            s0: 0,
-            s1: 0,
-            s2: b.s2,
-        };
+        let first = Sharing { s0: b.s0, ..none };
+        let second = Sharing { s1: b.s1, ..none };
+        let third = Sharing { s2: b.s2, ..none };
         let z = majority_words(first, second, third, t);
         lent.send(z);
         q.store(j + 1, third ^ z);

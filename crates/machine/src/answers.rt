@@ -2,21 +2,21 @@
 ghost use Rattle.std.specs.Prelude.{◌≡◌};
 ghost use Rattle.machine.specs.Answers.{number_of};
 
-// 01, "Why an order is refused"; the last is 02's, of a batch.
+// 01, "Why an order is refused", each with its number there; the last is 02's, of a batch.
 #[derive(Clone, Copy, Debug, PartialEq, Eq)]
 pub enum Refusal {
-    Unsound,
-    NoRegister,
-    EmptySource,
-    WrongKind,
-    NoRing,
-    RingsDiffer,
-    OutOfRange,
-    BadLength,
-    TapeShort,
-    ChannelShort,
-    BadItem,
-    NotSixtyFour,
+    Unsound = 1,
+    NoRegister = 2,
+    EmptySource = 3,
+    WrongKind = 4,
+    NoRing = 5,
+    RingsDiffer = 6,
+    OutOfRange = 7,
+    BadLength = 8,
+    TapeShort = 9,
+    BadItem = 10,
+    ChannelShort = 11,
+    NotSixtyFour = 23,
 }
 
 // What an order that is done opened, or 0, and the gates that it spent.
@@ -29,23 +29,10 @@ pub struct Done {
 pub type Answer = Result<Done, Refusal>;
 
 impl Refusal {
-    // Its number in 01, or in 02.
+    // Its number in 01, or in 02, as C and a line answer it. No `From`: `why.number()` says what the u64 is, `u64::from(why)` not.
     pub fn number(self) -> u64
         ensures { result ≡ number_of self }
     {
-        match self {
-            Refusal::Unsound => 1,
-            Refusal::NoRegister => 2,
-            Refusal::EmptySource => 3,
-            Refusal::WrongKind => 4,
-            Refusal::NoRing => 5,
-            Refusal::RingsDiffer => 6,
-            Refusal::OutOfRange => 7,
-            Refusal::BadLength => 8,
-            Refusal::TapeShort => 9,
-            Refusal::BadItem => 10,
-            Refusal::ChannelShort => 11,
-            Refusal::NotSixtyFour => 23,
-        }
+        self as u64
     }
 }

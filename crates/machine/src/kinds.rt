@@ -5,6 +5,7 @@ ghost use Rattle.machine.specs.Registers.{kind_of, shares_of, sound_register};
 ghost use Rattle.machine.specs.Step.{value_of};
 
 use crate::registers::Register;
+use circuit::zeros;
 use gate::Sharing;
 
 impl Register {
@@ -19,23 +20,19 @@ impl Register {
         ensures { result ≡ shares_of self }
     {
         match self {
-            Register::Empty => Sharing {
-                s0: 0,
-                s1: 0,
-                s2: 0,
-            },
+            Register::Empty => zeros(),
             Register::Number(_, x) | Register::Bits(_, x) => x,
         }
     }
 
-    // The total of a number, the exclusive or of bits.
+    // The total of a number, the exclusive or of bits: of the three places, so it is no map by place.
     pub fn value(self) -> u64
         requires { sound_register self ≡ true }
         ensures { result ≡ value_of self }
     {
         match self {
             Register::Empty => 0,
-            Register::Number(r, x) => { r.reduce_sum(x.s0 + x.s1 + x.s2) }
+            Register::Number(r, x) => r.reduce_sum(x.s0 + x.s1 + x.s2),
             Register::Bits(_, x) => x.s0 ^ x.s1 ^ x.s2,
         }
     }

@@ -8,4 +8,4 @@ mod registers;
 
 pub use answers::{Answer, Done, Refusal};
 pub use orders::Order;
-pub use registers::{MILLION, Machine, REGISTERS, Register};
+pub use registers::{MILLION, Machine, REGISTERS, Register, in_range};

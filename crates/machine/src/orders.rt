@@ -17,7 +17,7 @@ pub enum Order {
 }
 
 impl Order {
-    // The order of a kind and its three fields.
+    // The order of a kind and its three fields. 01 numbers the kinds, so C and a line say them so; no `TryFrom`, for it takes one value.
     #[tactic(auto, unfolding(crate::specs::Orders::of_kind))]
     pub fn of_kind(kind: u64, a: u64, b: u64, c: u64) -> Option<Order>
         ensures { result ≡ of_kind kind a b c }

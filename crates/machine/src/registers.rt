@@ -6,7 +6,7 @@ ghost use Rattle.machine.specs.Step.{moved};
 use gate::Sharing;
 use ring::Ring;
 
-// 01: "A register is empty, a number of a ring, or bits".
+// 01: "A register is empty, a number of a ring, or bits". No Option of the other two: an order's checks take the three at once.
 #[derive(Clone, Copy)]
 pub enum Register {
     Empty,
@@ -59,7 +59,7 @@ impl Machine {
         (self.masks_at <= MILLION) & ((self.channels_at <= MILLION) & (self.dealer_at <= MILLION))
     }
 
-    // Empty registers, zero positions.
+    // Empty registers, zero positions. No `Default`: 01 calls it the empty machine.
     #[tactic(auto, unfolding(crate::specs::Registers::empty_machine))]
     pub fn empty() -> Machine
         ensures { result ≡ empty_machine }
@@ -72,7 +72,7 @@ impl Machine {
         }
     }
 
-    // Register k, empty past the last.
+    // Register k, empty past the last. Here and below a register's number is a u64, as C and a line give it.
     #[tactic(auto, unfolding(crate::specs::Registers::register_at))]
     pub fn register(self, k: u64) -> Register
         ensures { result ≡ register_at self k }
@@ -109,8 +109,8 @@ impl Machine {
     }
 }
 
-// Each sub-share below m.
-fn in_range(m: u64, x: Sharing) -> bool
+// Each sub-share below m. By place: three tests by `map` would need a test of the three results besides.
+pub fn in_range(m: u64, x: Sharing) -> bool
     ensures { result ≡ shares_below m x }
 {
     (x.s0 < m) & ((x.s1 < m) & (x.s2 < m))

@@ -11,32 +11,23 @@ pub struct Outcome {
     pub answer: Answer,
 }
 
-// The number of an answer's refusal, 0 where the order was accepted.
+// The number of an answer's refusal, 0 where the order was accepted: the number in 01 is what C is told.
 pub fn refusal(a: Answer) -> u64
     ensures { result ≡ refusal_of a }
 {
-    match a {
-        Ok(_) => 0,
-        Err(w) => w.number(),
-    }
+    a.err().map_or(0, |w| w.number())
 }
 
 // The value opened, else 0.
 pub fn value(a: Answer) -> u64
     ensures { result ≡ value_of a }
 {
-    match a {
-        Ok(done) => done.value,
-        Err(_) => 0,
-    }
+    a.map_or(0, |done| done.value)
 }
 
 // The gates spent.
 pub fn gates(a: Answer) -> u64
     ensures { result ≡ gates_of a }
 {
-    match a {
-        Ok(done) => done.gates,
-        Err(_) => 0,
-    }
+    a.map_or(0, |done| done.gates)
 }

@@ -58,10 +58,7 @@ impl Change {
 pub fn answer(k: Result<Change, Refusal>) -> Answer
     ensures { result ≡ answer_of k }
 {
-    match k {
-        Ok(change) => Ok(change.done()),
-        Err(w) => Err(w),
-    }
+    k.map(|change| change.done())
 }
 
 // The record that an order leaves, and the answer.

@@ -1,4 +1,5 @@
-// Orders 2 to 8: the checks of the record, and what is then to be done.
+// Orders 2 to 8: the checks of the record, and what is then to be done. `pair`, `number` and `bits` hold what the orders share: what
+// is left in each function is that order's own check, its own task and its own clause, so the like-looking ones stay apart.
 ghost use Rattle.std.specs.Prelude.{◌≡◌, ◌<◌};
 ghost use Rattle.ring.specs.Rings.{modulus_of};
 ghost use Rattle.gate.specs.Places.{InRange};
@@ -19,10 +20,7 @@ fn sums(r: Ring, x: Sharing, y: Sharing) -> Sharing
     requires right { InRange (modulus_of r) y }
     ensures { result ≡ added_to (modulus_of r) x y }
 {
-    let s0 = r.add(x.s0, y.s0);
-    let s1 = r.add(x.s1, y.s1);
-    let s2 = r.add(x.s2, y.s2);
-    Sharing { s0, s1, s2 }
+    x.zip(y, |a, b| r.add(a, b))
 }
 
 // Each sub-share times c.
@@ -31,10 +29,7 @@ fn products(r: Ring, x: Sharing, c: u64) -> Sharing
     requires factor { c < modulus_of r }
     ensures { result ≡ scaled_by (modulus_of r) x c }
 {
-    let s0 = r.mul(x.s0, c);
-    let s1 = r.mul(x.s1, c);
-    let s2 = r.mul(x.s2, c);
-    Sharing { s0, s1, s2 }
+    x.map(|a| r.mul(a, c))
 }
 
 // Order 2.

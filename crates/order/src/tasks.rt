@@ -54,11 +54,10 @@ impl Task {
         ensures { result ≡ register_of (kind_left self) z }
     {
         match self {
-            Task::Multiply(r, _, _) => Register::Number(r, z),
+            Task::Multiply(r, _, _) | Task::Shift(r, _, _) | Task::Compose(r, _, _) =>
+                Register::Number(r, z),
             Task::Decompose(_, _, l) => Register::Bits(l, z),
             Task::Convert(_, f, _) => Register::Number(f, z),
-            Task::Shift(r, _, _) => Register::Number(r, z),
-            Task::Compose(f, _, _) => Register::Number(f, z),
         }
     }
 }

@@ -74,7 +74,7 @@ fn two_numbers(x: Register, y: Register) -> Result<(Ring, Sharing, Sharing), Ref
     Ok((r, s, t))
 }
 
-// Three runs of unequal length, or over 1,000,000 words.
+// Three runs of unequal length, or over 1,000,000 words. Three numbers and no struct: mask tapes and channels are asked in turn.
 pub fn uneven(l0: u64, l1: u64, l2: u64) -> bool
     ensures { result ≡ uneven (three l0 l1 l2) }
 {
@@ -109,7 +109,7 @@ pub fn number(s: Sources, d: u64, x: u64) -> Result<(Ring, Sharing), Refusal>
     a_number(s.a)
 }
 
-// And of composing.
+// And of composing. It shares one line with `number`: one function of both would be handed the reader, its type and its checks.
 pub fn bits(s: Sources, d: u64, x: u64) -> Result<(u64, Sharing), Refusal>
     ensures refusal { verdict_of result ≡ first_met (begin_checks s.sound (d ∷ x ∷ []) ++ some_bits (kind_of s.a)) }
     ensures found { IfOk result (λ n. s.a ≡ Register.Bits n.0 n.1) }

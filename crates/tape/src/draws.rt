@@ -5,7 +5,7 @@ ghost use Rattle.tape.specs.Tapes.{limit_of, low_bits, width_of};
 
 use crate::items::Items;
 
-// An item with the index of the next raw word.
+// An item with the index of the next raw word: an index, not the words left, for the caller answers how many were used.
 #[derive(Clone, Copy)]
 pub struct Draw {
     pub item: u64,

@@ -6,22 +6,19 @@ ghost use Rattle.tape.specs.Tapes.{fill, limit_of, number_of, outcome, prepared,
 use crate::items::Items;
 use crate::passes::{enough, fill_run};
 
-// Why no tape was prepared.
+// Why no tape was prepared, each with 01's number.
 #[derive(Clone, Copy, Debug, PartialEq, Eq)]
 pub enum Refused {
-    NoRing,
-    RawEnded,
+    NoRing = 5,
+    RawEnded = 12,
 }
 
 impl Refused {
-    // 01's refusal number.
+    // 01's refusal number, as C answers it. No `From`: `why.number()` says what the u64 is, `u64::from(why)` not.
     pub fn number(self) -> u64
         ensures { result ≡ number_of self }
     {
-        match self {
-            Refused::NoRing => 5,
-            Refused::RawEnded => 12,
-        }
+        self as u64
     }
 }
 
@@ -35,14 +32,13 @@ fn prepare_items(items: Items, raw: &[u64], run: &mut [u64]) -> Result<usize, Re
     Err(Refused::RawEnded)
 }
 
-// Fills the run with items for a ring code, and answers the count of raw words used, or leaves it as it was.
+// Fills the run with items for a ring code, and answers the count of raw words used, or leaves it as it was. C gives the code as
+// a number, and any number may be given.
 #[tactic(auto, unfolding(crate::specs::Tapes::prepared))]
 pub fn prepare(code: u64, raw: &[u64], run: &mut [u64]) -> Result<usize, Refused>
     ensures is { outcome result run.new ≡ prepared code raw.now run.old }
     ensures lent { Stands raw }
 {
-    let Some(items) = Items::of_code(code) else {
-        return Err(Refused::NoRing);
-    };
+    let items = Items::of_code(code).ok_or(Refused::NoRing)?;
     prepare_items(items, raw, run)
 }

@@ -15,7 +15,7 @@ use Rattle.lanes.proofs.stages.carry_lanes.Goals as goal
 pub loop-j-init : goal.loop-j-init
 loop-j-init c =
     let a = c.args in
-    let first : c.store.new.self ≡ with_planes a.q.now 0 zeros = c.store.ensures.is ∙ ap (with_planes a.q.now 0) c.zeros.ensures in
+    let first : c.store.new.self ≡ with_planes a.q.now 0 zeros = c.store.ensures.is ∙ ap (with_planes a.q.now 0) c.zeros-none.ensures in
     nothing_sent a.lent.now
     (each_none carry_gate
     (λ k. ap (λ (w : Sharing). digits_of (columns 64 a.x.now k) w zeros zeros)
@@ -32,8 +32,8 @@ loop-j-preserved c =
     let head = c.loop-j in
     let now = c.store-in-loop-j in
     let takes = takes_carry head.j c.args.x.now head.q now.new.self c.at-b.result c.items-t.result c.majority_words-z.result c.bitxor.result
-    (omega (arith, c.loop-j-test.true, c.requires.count)) now.ensures.whole c.at-b.ensures.is c.majority_words-z.ensures
-    c.bitxor.ensures now.ensures.is in
+    (omega (arith, c.loop-j-test.true, c.requires.count)) now.ensures.whole c.at-b.ensures.is (rw c.zeros-none.ensures at c.majority_words-z.ensures)
+    (rw c.zeros-none.ensures at c.bitxor.ensures) now.ensures.is in
     let room = room_later head.j 1 (omega (arith, c.loop-j-test.true)) c.requires.room head.invariant in
     sends_then head.invariant (one_sent c.items-t.ensures room c.send.ensures)
     (λ ran one kept. each_more carry_gate head.j ran (one.on takes) kept)
