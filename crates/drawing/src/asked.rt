@@ -3,7 +3,7 @@ use crate::kinds::Kind;
 use std::error::Error;
 use std::fmt;
 
-// A count of lines of a kind for a ring code.
+// A count of lines of a kind for a ring code, which stays a number, since a tape is prepared for one.
 #[derive(Clone, Copy)]
 pub struct Asked {
     pub code: u64,

@@ -34,7 +34,7 @@ fn read_number(text: &[u8]) -> Option<u64>
     number_in(reading)
 }
 
-// Whether there are items for a ring code.
+// Whether there are items for a ring code: a number still, which the first argument gives.
 #[tactic(auto, unfolding(crate::specs::Asks::is_code))]
 fn is_code(code: u64) -> bool
     ensures { result ≡ is_code code }

@@ -1,4 +1,4 @@
-// Items drawn from raw bytes, printed as tape lines.
+// Items drawn from raw bytes, printed as tape lines. The ring code stays a number, since a tape is prepared for one.
 ghost use Rattle.std.specs.Prelude.{◌≡◌, ◌*◌, ◌≤◌, IfOk, length};
 ghost use Rattle.tape.specs.Tapes.{prepared};
 ghost use Rattle.drawing.specs.Draws.{Drew, drawn, drawn_by};

@@ -1,4 +1,4 @@
-// Tape lines from items.
+// Tape lines from items, put at places of a slice that the caller lends: there is no heap, so `out` and `at` stand side by side.
 ghost use Rattle.std.specs.Prelude.{◌≡◌, ◌+◌, ◌*◌, ◌≤◌, ◌<◌, length};
 ghost use Rattle.line.specs.Printed.{Wrote};
 ghost use Rattle.drawing.specs.Lines.{line_of, lines_of, per_line};
@@ -43,7 +43,7 @@ fn put_dealer(items: &[u64], k: usize, out: &mut [u8], at: usize) -> usize
     put_field(out, a, items[k], b'\n')
 }
 
-// Line k of either kind.
+// Line k of either kind. The kind is known only here, where a line is put, so there is no function to be handed in.
 fn put_line(kind: Kind, items: &[u64], k: usize, out: &mut [u8], at: usize) -> usize
     requires items { per_line kind * (k + 1) ≤ length items.now }
     requires room { at + 84 ≤ length out.old }

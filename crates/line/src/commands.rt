@@ -1,4 +1,4 @@
-// What a line says, by its kind and its numbers.
+// What a line says, by its kind and its numbers. The kind is a number, as it was read, and may be none of these.
 ghost use Rattle.std.specs.Prelude.{◌≡◌};
 ghost use Rattle.line.specs.Lines.{with_one, with_three};
 
@@ -21,7 +21,7 @@ pub enum Command {
     Unreadable,
 }
 
-// The kinds with one number beside them.
+// The kinds with one number beside them. The kind alone makes no command, so there is no From for it.
 #[tactic(auto, unfolding(crate::specs::Lines::with_one))]
 pub fn with_one(kind: u64, a: u64) -> Command
     ensures { result ≡ with_one kind a }
@@ -33,7 +33,7 @@ pub fn with_one(kind: u64, a: u64) -> Command
     }
 }
 
-// The kinds with three.
+// The kinds with three; no From for these either.
 #[tactic(auto, unfolding(crate::specs::Lines::with_three))]
 pub fn with_three(kind: u64, a: u64, b: u64, c: u64) -> Command
     ensures { result ≡ with_three kind a b c }

@@ -1,4 +1,4 @@
-// The line that is printed for an order.
+// The line that is printed for an order, at a place of a slice that the caller lends: there is no heap.
 ghost use Rattle.std.specs.Prelude.{◌≡◌, ◌+◌, ◌≤◌, length};
 ghost use Rattle.line.specs.Printed.{Wrote, field, printed};
 

@@ -1,13 +1,13 @@
 // Reading a line byte by byte: its length is not bounded, and it may come in chunks.
 ghost use Rattle.std.specs.Prelude.{◌≡◌, List, [], ◌∷◌, ℕ, ◌+◌, ◌<◌, drop, length};
 ghost use Rattle.line.specs.Lines.{command_of, line_in};
-ghost use Rattle.line.specs.Readings.{comma_on, command_in, digit_on, fields_on, no_fields, read, read_on, said_by};
+ghost use Rattle.line.specs.Readings.{comma_on, command_in, digit_on, fields_on, read, read_on, said_by};
 
 use crate::commands::{Command, with_one, with_three};
 
 // The fields of a line: the last three that a comma ended, the newest first, so that each has a
 // fixed place and a register; and the digits of the current one with their value.
-#[derive(Clone, Copy)]
+#[derive(Clone, Copy, Default)]
 pub struct Fields {
     pub ended: [u64; 3],
     pub commas: usize,
@@ -15,15 +15,15 @@ pub struct Fields {
     pub value: u64,
 }
 
-// What the bytes of a line so far come to: its fields, if it can still be read, and whether there
-// was a byte.
+// What the bytes of a line so far come to: its fields, if it can still be read, and whether there was a byte. `seen` says nothing of the
+// fields: no byte, and no line, is a reading with fields too.
 #[derive(Clone, Copy)]
 pub struct Reading {
     pub fields: Option<Fields>,
     pub seen: bool,
 }
 
-// A reading, with the index of the byte that it stopped at.
+// A reading, with the index of the byte that it stopped at: a line may end in a later chunk, so no slice holds it.
 #[derive(Clone, Copy)]
 pub struct Taken {
     pub reading: Reading,
@@ -33,18 +33,6 @@ pub struct Taken {
 const MOST_DIGITS: usize = 20;
 
 impl Fields {
-    // Of a line without a byte.
-    fn none() -> Fields
-        ensures { result ≡ no_fields }
-    {
-        Fields {
-            ended: [0; 3],
-            commas: 0,
-            digits: 0,
-            value: 0,
-        }
-    }
-
     // A comma ends the current field; no line has more than four.
     #[tactic(auto, unfolding(crate::specs::Readings::comma_on))]
     fn comma(self) -> Option<Fields>
@@ -84,13 +72,13 @@ impl Fields {
         ensures { result ≡ fields_on self b }
     {
         match b {
-            b'0'..=b'9' => self.digit((b - b'0') as u64),
+            b'0'..=b'9' => self.digit(u64::from(b - b'0')),
             b',' => self.comma(),
             _ => None,
         }
     }
 
-    // What they say, once the line has ended.
+    // What they say, once the line has ended. The arms hand on other fields, so no function is chosen here.
     #[tactic(auto, unfolding(crate::specs::Readings::said_by))]
     fn command(self) -> Command
         ensures { result ≡ said_by self }
@@ -108,12 +96,12 @@ impl Fields {
 }
 
 impl Reading {
-    // No byte yet.
+    // No byte yet. A derived Default would have no fields, as a line that cannot be read.
     pub fn start() -> Reading
         ensures { result ≡ read [] }
     {
         Reading {
-            fields: Some(Fields::none()),
+            fields: Some(Fields::default()),
             seen: false,
         }
     }
@@ -141,7 +129,7 @@ impl Reading {
     }
 }
 
-// Reads from `at` up to the line's end or the buffer's, from what was read of the line before.
+// Reads from `at` up to the line's end or the buffer's, from what was read of the line before. The chunk stays whole, `at` moves on in it.
 pub fn take_line(buf: &[u8], at: usize, before: Reading) -> Taken
     ensures reading { result.reading ≡ read_on before (line_in (drop at buf.now)) }
     ensures stop { result.at ≡ at + length (line_in (drop at buf.now)) }
