@@ -20,10 +20,11 @@ fn main(rt: HostRuntime) {
     let mut ring = [0u8; 32];
     let mut count = [0u8; 32];
     let mut kind = [0u8; 32];
-    let a = copy_argument(&rt, 1, &mut ring);
-    let b = copy_argument(&rt, 2, &mut count);
-    let c = copy_argument(&rt, 3, &mut kind);
-    match drawing::ask(&ring[..a], &count[..b], &kind[..c]) {
+    let ring = argument(&rt, 1, &mut ring);
+    let count = argument(&rt, 2, &mut count);
+    let kind = argument(&rt, 3, &mut kind);
+    // Each way prints once, and what it prints is of another type: no function to choose.
+    match drawing::ask(ring, count, kind) {
         Ok(asked) => print_lines(rt, asked),
         Err(bad) => say(rt, bad),
     }
@@ -35,11 +36,10 @@ fn is_given(rt: &impl Env, i: usize) -> bool {
     !matches!(rt.arg(i, &mut first), Err(FillError::NotPresent))
 }
 
-// Puts argument i at the start of its buffer, and answers its length. One that is longer than the buffer counts as empty, and will not do.
-fn copy_argument(rt: &impl Env, i: usize, buf: &mut [u8]) -> usize
-    ensures { result ≤ length buf.new }
-{
-    rt.arg(i, buf).unwrap_or(0)
+// Argument i, in its buffer. One that is longer than the buffer counts as empty, and will not do.
+fn argument<'a>(rt: &impl Env, i: usize, buf: &'a mut [u8]) -> &'a [u8] {
+    let n = rt.arg(i, buf).unwrap_or(0);
+    &buf[..n]
 }
 
 fn say(rt: HostRuntime, what: impl Display + Drop) {
@@ -73,6 +73,7 @@ fn print_lines(rt: HostRuntime, asked: Asked)
         return;
     };
     let raw = &bytes[0..count];
+    // At most 512, so the cast loses nothing: TryFrom would add a failure that never comes.
     match drawing::draw(asked.code, asked.count as usize, asked.kind, raw, &mut out) {
         Ok(length) => {
             streams::write(rt, b"draw: standard output", &out[0..length]);

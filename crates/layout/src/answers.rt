@@ -10,7 +10,5 @@ pub fn write_answer(a: Answer, words: &mut [u64])
     requires { length words.old ≡ 3 }
     ensures { words.new ≡ answer_words a }
 {
-    words[0] = refusal(a);
-    words[1] = value(a);
-    words[2] = gates(a);
+    words.copy_from_slice(&[refusal(a), value(a), gates(a)]);
 }

@@ -1,35 +1,18 @@
-// An order in four words.
+// An order in four words. Its kind is a number, since the layout is that of the C interface.
 ghost use Rattle.std.specs.Prelude.{◌≡◌};
-ghost use Rattle.layout.specs.Layout.{open_from, order_from, order_of};
+ghost use Rattle.layout.specs.Layout.{order_of};
 
 use machine::Order;
 
-// Reads a kind, and the order's fields after it.
-#[tactic(auto, unfolding(crate::specs::Layout::order_of))]
+// Reads a kind, and the order's fields after it; an opening's last two words are 0.
+#[tactic(auto, unfolding(crate::specs::Layout::order_of, crate::specs::Layout::order_from))]
 pub fn read_order(words: &[u64]) -> Option<Order>
     ensures { result ≡ order_of words.now }
 {
-    if words.len() != 4 {
-        return None;
+    match words {
+        [9, x, 0, 0] => Some(Order::Open { x: *x }),
+        [9, _, _, _] => None,
+        [kind, a, b, c] => Order::of_kind(*kind, *a, *b, *c),
+        _ => None,
     }
-    order_from(words[0], words[1], words[2], words[3])
-}
-
-// The order of a kind and three words.
-#[tactic(auto, unfolding(crate::specs::Layout::order_from))]
-fn order_from(kind: u64, a: u64, b: u64, c: u64) -> Option<Order>
-    ensures { result ≡ order_from kind a b c }
-{
-    match kind {
-        9 => open_from(a, b, c),
-        _ => Order::of_kind(kind, a, b, c),
-    }
-}
-
-// An opening's last two words are 0.
-fn open_from(x: u64, a: u64, b: u64) -> Option<Order>
-    ensures { result ≡ open_from x a b }
-{
-    let ended = (a == 0) & (b == 0);
-    ended.then_some(Order::Open { x })
 }

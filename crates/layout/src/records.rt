@@ -1,4 +1,5 @@
 // A machine record in 83 words: sixteen registers, then three positions. It is read and changed where it stands.
+// A register's number is below 16 where it is cast to usize: TryFrom would add a failure that never comes.
 ghost use Rattle.std.specs.Prelude.{◌≡◌, ◌+◌, ◌<◌, ◌^◌, get_or, length};
 ghost use Rattle.machine.specs.Registers.{register_at};
 ghost use Rattle.machine.specs.Step.{moved};

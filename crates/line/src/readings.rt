@@ -1,13 +1,13 @@
 // Reading a line byte by byte: its length is not bounded, and it may come in chunks.
 ghost use Rattle.std.specs.Prelude.{◌≡◌, List, [], ◌∷◌, ℕ, ◌+◌, ◌<◌, drop, length};
 ghost use Rattle.line.specs.Lines.{command_of, line_in};
-ghost use Rattle.line.specs.Readings.{comma_on, command_in, digit_on, fields_on, no_fields, read, read_on, said_by};
+ghost use Rattle.line.specs.Readings.{comma_on, command_in, digit_on, fields_on, read, read_on, said_by};
 
 use crate::commands::{Command, with_one, with_three};
 
 // The fields of a line: the last three that a comma ended, the newest first, so that each has a
 // fixed place and a register; and the digits of the current one with their value.
-#[derive(Clone, Copy)]
+#[derive(Clone, Copy, Default)]
 pub struct Fields {
     pub ended: [u64; 3],
     pub commas: usize,
@@ -33,18 +33,6 @@ pub struct Taken {
 const MOST_DIGITS: usize = 20;
 
 impl Fields {
-    // Of a line without a byte.
-    fn none() -> Fields
-        ensures { result ≡ no_fields }
-    {
-        Fields {
-            ended: [0; 3],
-            commas: 0,
-            digits: 0,
-            value: 0,
-        }
-    }
-
     // A comma ends the current field; no line has more than four.
     #[tactic(auto, unfolding(crate::specs::Readings::comma_on))]
     fn comma(self) -> Option<Fields>
@@ -84,7 +72,7 @@ impl Fields {
         ensures { result ≡ fields_on self b }
     {
         match b {
-            b'0'..=b'9' => self.digit((b - b'0') as u64),
+            b'0'..=b'9' => self.digit(u64::from(b - b'0')),
             b',' => self.comma(),
             _ => None,
         }
@@ -113,7 +101,7 @@ impl Reading {
         ensures { result ≡ read [] }
     {
         Reading {
-            fields: Some(Fields::none()),
+            fields: Some(Fields::default()),
             seen: false,
         }
     }

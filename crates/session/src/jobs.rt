@@ -1,4 +1,4 @@
-// The lines of a chunk of input, one after the other.
+// The lines of a chunk of input, one after the other. What they print goes to places of a slice that the caller lends: there is no heap.
 ghost use Rattle.std.specs.Prelude.{◌≡◌, ◌+◌, ◌*◌, ◌≤◌, ◌<◌, drop, length, ltb};
 ghost use Rattle.line.specs.Printed.{Wrote};
 ghost use Rattle.machine.specs.Registers.{million};
@@ -23,7 +23,7 @@ pub struct Job {
 }
 
 impl Job {
-    // No byte yet.
+    // No byte yet. No derived Default: tapes with ghost fields have none, and a reading begins with fields.
     pub fn new() -> Job
         ensures { standing_of result ≡ begun }
     {

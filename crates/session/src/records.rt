@@ -35,7 +35,7 @@ impl Model for SoundRecord {
 }
 
 impl SoundRecord {
-    // Empty registers, zero positions.
+    // Empty registers, zero positions. No derived Default: its contract would be of the words, not of the record that they say.
     pub fn empty() -> SoundRecord
         ensures { result ≡ empty_machine }
     {
@@ -57,6 +57,7 @@ impl SoundRecord {
     }
 
     // 01: "kinds 1 to 9 are the orders". The record is sound, so its words are not looked at again.
+    // The wires stay three slices, as a step takes them: a program in another language lends them so.
     pub fn give_order(
         &mut self,
         o: Order,

@@ -4,7 +4,7 @@ ghost use Rattle.session.specs.Kept.{state_of};
 ghost use Rattle.session.specs.Outputs.{started, taken, turned};
 
 use crate::records::SoundRecord;
-use crate::replies::Reply;
+use crate::replies::{DECLINED, Reply};
 use crate::tapes::TapeLines;
 use line::Command;
 
@@ -22,7 +22,7 @@ pub struct Kept {
 }
 
 impl Kept {
-    // Before the first line.
+    // Before the first line. No derived Default: tapes with ghost fields have none.
     pub fn new() -> Kept
         ensures { state_of result ≡ started }
     {
@@ -46,7 +46,7 @@ impl Kept {
                 self.record
                     .give_order(o, &self.tapes, &mut self.c0, &mut self.c1, &mut self.c2),
             ),
-            Command::Unreadable => Some(Reply::declined()),
+            Command::Unreadable => Some(DECLINED),
         }
     }
 }

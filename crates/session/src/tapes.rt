@@ -1,7 +1,7 @@
 // The items of a job's tape lines.
 ghost use Rattle.std.specs.Prelude.{◌≡◌, length};
 
-use crate::replies::Reply;
+use crate::replies::{DECLINED, Reply};
 use arrayvec::ArrayVec;
 
 // 01: "At most 512 lines of each tape kind".
@@ -25,7 +25,7 @@ impl TapeLines {
     ghost use Rattle.session.specs.Kept.{tapes_in};
     ghost use Rattle.session.specs.Outputs.{item_taken, masks_taken, no_tapes, state, turned};
 
-    // No line yet.
+    // No line yet. No derived Default: a struct with ghost fields can't have one.
     pub fn new() -> TapeLines
         ensures { tapes_in result ≡ no_tapes }
     {
@@ -43,7 +43,7 @@ impl TapeLines {
             ≡ masks_taken (state m (tapes_in self.old) c) t0 t1 t2 }
     {
         if self.m0.is_full() {
-            return Some(Reply::declined());
+            return Some(DECLINED);
         }
         self.m0.push(t0);
         self.m1.push(t1);
@@ -57,7 +57,7 @@ impl TapeLines {
             ≡ item_taken (state m (tapes_in self.old) c) item }
     {
         if self.dealer.is_full() {
-            return Some(Reply::declined());
+            return Some(DECLINED);
         }
         self.dealer.push(item);
         None

@@ -36,8 +36,5 @@ fn fail(rt: HostRuntime, name: &[u8], error: &Error) {
 
 // An error's text without the system's number, which stands at its end.
 fn without_number(text: &str) -> &str {
-    match text.split_once(" (os error ") {
-        Some((reason, _)) => reason,
-        None => text,
-    }
+    text.split_once(" (os error ").map_or(text, |(reason, _)| reason)
 }

@@ -10,7 +10,7 @@ use Rattle.session.proofs.tapes.TapeLines.add_item.Goals as goal
 pub returns-then-is_full : goal.returns-then-is_full
 returns-then-is_full c m ch =
     let full : most ≤ length c.args.self.now.dealer.items = grind arith in
-    rw c.declined.ensures (sym (item_over _ _ full))
+    sym (item_over _ _ full)
 
 pub returns : goal.returns
 returns c m ch =

@@ -10,7 +10,7 @@ use Rattle.session.proofs.tapes.TapeLines.add_masks.Goals as goal
 pub returns-then-is_full : goal.returns-then-is_full
 returns-then-is_full c m ch =
     let full : most ≤ length c.args.self.now.m0.items = grind arith in
-    rw c.declined.ensures (sym (masks_over _ _ _ _ full))
+    sym (masks_over _ _ _ _ full)
 
 pub returns : goal.returns
 returns c m ch =
