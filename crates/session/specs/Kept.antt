@@ -1,4 +1,4 @@
--- What the code keeps of a job, as the definitions' state. Used by the code's contracts alone.
+-- What the code keeps of a job, as the definitions' state. Used by the code's contracts, and by the theorem `Starts`.
 use Rattle.gate.specs.Places.{three}
 use Rattle.machine.specs.Checks.{Tapes}
 use Rattle.session.specs.Outputs.{State, state, tapes}

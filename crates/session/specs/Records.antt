@@ -1,4 +1,4 @@
--- The record in words, as a job keeps it.
+-- The record in words, as a job keeps it. Used by the code's contracts, and by the theorem `Starts`.
 use Rattle.std.specs.Prelude.{ℕ, true, List, None, Option, Some, ◌≡◌, replicate}
 use Rattle.machine.specs.Registers.{empty_machine, sound}
 use Rattle.machine.specs.declared.registers.Machine.{Machine}

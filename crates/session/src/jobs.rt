@@ -9,7 +9,7 @@ use crate::states::Kept;
 use line::{Reading, print_line, take_line};
 
 // 01: "Reading stops after line 1,000,000".
-const LAST_LINE: u64 = 1_000_000;
+pub const LAST_LINE: u64 = 1_000_000;
 
 // No line prints more bytes.
 pub const MOST_PRINTED: usize = 105;
@@ -17,9 +17,9 @@ pub const MOST_PRINTED: usize = 105;
 // A job: what the lines so far left, how many there were, and what was read of the next.
 #[derive(Drop)]
 pub struct Job {
-    kept: Kept,
-    lines: u64,
-    reading: Reading,
+    pub kept: Kept,
+    pub lines: u64,
+    pub reading: Reading,
 }
 
 impl Job {

@@ -7,4 +7,8 @@ mod replies;
 mod states;
 mod tapes;
 
-pub use jobs::{Job, MOST_PRINTED};
+pub use jobs::{Job, LAST_LINE, MOST_PRINTED};
+pub use records::SoundRecord;
+pub use replies::Reply;
+pub use states::Kept;
+pub use tapes::TapeLines;

@@ -4,6 +4,8 @@ ghost use Rattle.gate.specs.Lent.{at_entry_mut, at_exit};
 ghost use Rattle.machine.specs.Registers.{empty_machine};
 ghost use Rattle.session.specs.Kept.{tapes_in};
 ghost use Rattle.session.specs.Outputs.{ordered, state, turned};
+ghost use Rattle.layout.specs.Layout.{Says};
+ghost use Rattle.session.specs.Records.{RecordFits, machine_in};
 
 use crate::replies::Reply;
 use crate::tapes::TapeLines;
@@ -40,6 +42,21 @@ impl SoundRecord {
         ensures { result ≡ empty_machine }
     {
         SoundRecord { words: [0; WORDS] }
+    }
+
+    // The record that words say, a sound one.
+    pub fn of(words: [u64; WORDS]) -> SoundRecord
+        requires { RecordFits words }
+        ensures { result ≡ machine_in words }
+    {
+        SoundRecord { words }
+    }
+
+    // Its words.
+    pub fn words(&self) -> &[u64]
+        ensures { Says result.now self.now }
+    {
+        &self.words
     }
 
     // Its position on the mask tapes.

@@ -15,10 +15,10 @@ const WIRE: usize = 1024;
 #[derive(Drop)]
 pub struct Kept {
     pub record: SoundRecord,
-    tapes: TapeLines,
-    c0: [u64; WIRE],
-    c1: [u64; WIRE],
-    c2: [u64; WIRE],
+    pub tapes: TapeLines,
+    pub c0: [u64; WIRE],
+    pub c1: [u64; WIRE],
+    pub c2: [u64; WIRE],
 }
 
 impl Kept {
