@@ -128,7 +128,8 @@ fn reduce_sums(e: u64, p: u64, sum: Sharing) -> Sharing
 }
 
 // Bits from, from + 1, .. of w, count of them, with weights 1, 2, 4, .. modulo p.
-pub fn compose_bits(r: Ring, w: Sharing, from: u64, count: u64, lent: &mut Lent<'_>) -> Sharing
+#[inline(always)]
+fn sum_bits(r: Ring, w: Sharing, from: u64, count: u64, lent: &mut Lent<'_>) -> Sharing
     requires bits { from + count ≤ 64 }
     requires supplied { Supplied (modulus_of r) (2 * count) lent.old }
     ensures is { Sends (2 * count) (bits_summed (modulus_of r) from count w result) lent.old lent.new }
@@ -144,6 +145,27 @@ pub fn compose_bits(r: Ring, w: Sharing, from: u64, count: u64, lent: &mut Lent<
         power = next_power(e, power);
     }
     reduce_sums(e, p, sum)
+}
+
+// The same, on a copy of what is lent: no word that is sent can change it, so its addresses stay in registers.
+pub fn compose_bits(r: Ring, w: Sharing, from: u64, count: u64, lent: &mut Lent<'_>) -> Sharing
+    requires bits { from + count ≤ 64 }
+    requires supplied { Supplied (modulus_of r) (2 * count) lent.old }
+    ensures is { Sends (2 * count) (bits_summed (modulus_of r) from count w result) lent.old lent.new }
+    ensures below { InRange (modulus_of r) result }
+{
+    let own = &mut Lent {
+        m0: lent.m0,
+        m1: lent.m1,
+        m2: lent.m2,
+        c0: &mut *lent.c0,
+        c1: &mut *lent.c1,
+        c2: &mut *lent.c2,
+        at: lent.at,
+    };
+    let sum = sum_bits(r, w, from, count, own);
+    lent.at = own.at;
+    sum
 }
 
 // Order 8: all l bits of w.
