@@ -49,16 +49,9 @@ fn join_first(e: u64, p: u64, w: Sharing, j: u64, lent: &mut Lent<'_>) -> Sharin
     let b0 = bit(w.s0, j);
     let b1 = bit(w.s1, j);
     let z = lent.gate(|t| words_of_bits(e, p, b0, b1, t));
-    let u = Sharing {
-        s0: b0,
-        s1: 0,
-        s2: 0,
-    };
-    let v = Sharing {
-        s0: 0,
-        s1: b1,
-        s2: 0,
-    };
+    let none = zeros();
+    let u = Sharing { s0: b0, ..none };
+    let v = Sharing { s1: b1, ..none };
     join_shares(p, u, v, z)
 }
 
@@ -73,11 +66,7 @@ fn join_last(e: u64, p: u64, w: Sharing, j: u64, half: Sharing, lent: &mut Lent<
 {
     let b2 = bit(w.s2, j);
     let z = lent.gate(|t| words_by_bit(e, p, half, b2, t));
-    let v = Sharing {
-        s0: 0,
-        s1: 0,
-        s2: b2,
-    };
+    let v = Sharing { s2: b2, ..zeros() };
     join_shares(p, half, v, z)
 }
 

@@ -1,7 +1,7 @@
 -- Order 5's gates on states that are made of words: their factors are bits of the words.
 use Prim.Native.Nat.{ℕ, ◌+◌, ◌/◌}
 use mathlib.Core.List.{List}
-use mathlib.Core.Path.{◌≡◌, ap, ap₂, fun_ext, refl, subst, sym, ◌∙◌}
+use mathlib.Core.Path.{◌≡◌, ap, ap₂, fun_ext, refl, sym, ◌∙◌}
 use native.Mathlib.Omega.{arith}
 use lib.Bits.{bit_xor, xor_lt}
 use Rattle.ring.specs.Rings.{bit_of}
@@ -74,34 +74,28 @@ majority_is x y c t {z = z} hl hr hz sent hb =
     (hb ∙ ap (bits_xor c) said, rw said at sent)
 
 -- (i) the carry gate, on bits that are known at one place each
-abbrev pub at_zero : Sharing → Sharing → Sharing
-at_zero n b = record { s0 = b.s0; s1 = n.s1; s2 = n.s2 }
+abbrev pub at_zero : Sharing → Sharing
+at_zero b = record { s0 = b.s0; s1 = 0; s2 = 0 }
 
-abbrev pub at_one : Sharing → Sharing → Sharing
-at_one n b = record { s0 = n.s0; s1 = b.s1; s2 = n.s2 }
+abbrev pub at_one : Sharing → Sharing
+at_one b = record { s0 = 0; s1 = b.s1; s2 = 0 }
 
-abbrev pub at_two : Sharing → Sharing → Sharing
-at_two n b = record { s0 = n.s0; s1 = n.s1; s2 = b.s2 }
+abbrev pub at_two : Sharing → Sharing
+at_two b = record { s0 = 0; s1 = 0; s2 = b.s2 }
 
-abbrev pub carry_words : (n b t : Sharing) → Sharing
-carry_words n b t = majority_words (at_zero n b) (at_one n b) (at_two n b) t
-
-pub carry_turned : {x n b carry carries r t : Sharing} (j : ℕ) {c₀ c₁ c₂ d₀ d₁ d₂ : List ℕ}
-    → n ≡ zeros
+pub carry_turned : {x b carry carries r t : Sharing} (j : ℕ) {c₀ c₁ c₂ d₀ d₁ d₂ : List ℕ}
     → b ≡ bits_at x j
-    → carry ≡ bits_xor (at_two n b) (carry_words n b t)
-    → Sent (carry_words n b t) c₀ c₁ c₂ d₀ d₁ d₂
+    → carry ≡ bits_xor (at_two b) (majority_words (at_zero b) (at_one b) (at_two b) t)
+    → Sent (majority_words (at_zero b) (at_one b) (at_two b) t) c₀ c₁ c₂ d₀ d₁ d₂
     → r ≡ stored carries carry (j + 1)
     → Turned (carry_gate j) (digits_of x carries zeros zeros) t (digits_of x r zeros zeros) c₀ c₁ c₂ d₀ d₁ d₂
 unfolding carry_gate words after
-carry_turned {x} {n} {b} {carry} {carries} {r} {t} j {c₀} {c₁} {c₂} {d₀} {d₁} {d₂} hn hb hc sent hr =
-    let bit : carry ≡ bits_xor (at_two zeros b) (carry_words zeros b t) = subst (λ (n : Sharing). carry ≡ bits_xor (at_two n b) (carry_words n b t)) hn hc in
-    let words : Sent (carry_words zeros b t) c₀ c₁ c₂ d₀ d₁ d₂ = subst (λ (n : Sharing). Sent (carry_words n b t) c₀ c₁ c₂ d₀ d₁ d₂) hn sent in
-    let turned : r ≡ stored carries (bits_xor (at_two zeros (bits_at x j)) (carry_words zeros (bits_at x j) t)) (j + 1)
-    = rw (hr, bit, hb) in
+carry_turned {x} {b} {carry} {carries} {r} {t} j {c₀} {c₁} {c₂} {d₀} {d₁} {d₂} hb hc sent hr =
+    let turned : r ≡ stored carries (bits_xor (at_two (bits_at x j)) (majority_words (at_zero (bits_at x j)) (at_one (bits_at x j)) (at_two (bits_at x j)) t)) (j + 1)
+    = rw (hr, hc, hb) in
     record {
       states = sym (ap (λ (w : Sharing). digits_of x w zeros zeros) turned);
-      stored = rw hb at words;
+      stored = rw hb at sent;
     }
 
 -- (ii) the running gate
