@@ -136,7 +136,7 @@ fn sum_bits(r: Ring, w: Sharing, from: u64, count: u64, lent: &mut Lent<'_>) -> 
     reduce_sums(e, p, sum)
 }
 
-// The same, on a copy of what is lent: no word that is sent can change it, so its addresses stay in registers.
+// The same. The gates run on a copy of what is lent: no word that they send can change it, so its addresses stay in registers.
 pub fn compose_bits(r: Ring, w: Sharing, from: u64, count: u64, lent: &mut Lent<'_>) -> Sharing
     requires bits { from + count ≤ 64 }
     requires supplied { Supplied (modulus_of r) (2 * count) lent.old }

@@ -60,7 +60,8 @@ fn run_stages(r: Ring, a: Sharing, l: u64, lent: &mut Lent<'_>) -> Sharing
     from_carries(x, carries, l, lent)
 }
 
-// Decomposes a into l bits: 3l + 1 gates, on a copy of what is lent: no word that is sent can change it, so its addresses stay in registers.
+// Decomposes a into l bits: 3l + 1 gates. They run on a copy of what is lent: no word that they send can change it, so its addresses
+// stay in registers.
 pub fn decompose(r: Ring, a: Sharing, l: u64, lent: &mut Lent<'_>) -> Sharing
     requires source { InRange (modulus_of r) a }
     requires count { (1 ≤ l) × (l + 2 ≤ width_of r) }
