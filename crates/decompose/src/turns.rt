@@ -46,7 +46,7 @@ pub fn carry_turn(x: Sharing, carries: Sharing, j: u64, lent: &mut Lent<'_>) -> 
     store(carries, carry, j + 1)
 }
 
-// Running carry j + 1, from sum bit, carry and running carry j, which is the last.
+// Running carry j + 1, from sum bit, carry and running carry j, which is the last; the carry's turn hands on to the majority too.
 #[inline(always)]
 pub fn running_turn(
     x: Sharing,
