@@ -6,4 +6,4 @@ mod lent;
 mod sharings;
 
 pub use lent::Lent;
-pub use sharings::{four_times, items_at, zeros};
+pub use sharings::{four_times, zeros};

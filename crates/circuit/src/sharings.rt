@@ -2,13 +2,12 @@
 ghost use Rattle.std.specs.Prelude.{◌≡◌, ◌+◌};
 ghost use Rattle.ring.specs.Rings.{modulus_of};
 ghost use Rattle.gate.specs.Places.{InRange};
-ghost use Rattle.circuit.specs.Lent.{Long};
-ghost use Rattle.circuit.specs.Sharings.{four_times, items_at, zeros};
+ghost use Rattle.circuit.specs.Sharings.{four_times, zeros};
 
 use gate::Sharing;
 use ring::Ring;
 
-// No bits and no sum yet.
+// No bits and no sum yet. Three zeros are written out here alone: a map needs a sharing to start from.
 pub fn zeros() -> Sharing
     ensures { result ≡ zeros }
 {
@@ -16,18 +15,6 @@ pub fn zeros() -> Sharing
         s0: 0,
         s1: 0,
         s2: 0,
-    }
-}
-
-// Item k of each mask tape.
-pub fn items_at(m0: &[u64], m1: &[u64], m2: &[u64], k: usize) -> Sharing
-    requires { Long (k + 1) m0.now m1.now m2.now }
-    ensures { result ≡ items_at k m0.now m1.now m2.now }
-{
-    Sharing {
-        s0: m0[k],
-        s1: m1[k],
-        s2: m2[k],
     }
 }
 

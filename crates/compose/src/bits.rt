@@ -49,16 +49,9 @@ fn join_first(e: u64, p: u64, w: Sharing, j: u64, lent: &mut Lent<'_>) -> Sharin
     let b0 = bit(w.s0, j);
     let b1 = bit(w.s1, j);
     let z = lent.gate(|t| words_of_bits(e, p, b0, b1, t));
-    let u = Sharing {
-        s0: b0,
-        s1: 0,
-        s2: 0,
-    };
-    let v = Sharing {
-        s0: 0,
-        s1: b1,
-        s2: 0,
-    };
+    let none = zeros();
+    let u = Sharing { s0: b0, ..none };
+    let v = Sharing { s1: b1, ..none };
     join_shares(p, u, v, z)
 }
 
@@ -73,11 +66,7 @@ fn join_last(e: u64, p: u64, w: Sharing, j: u64, half: Sharing, lent: &mut Lent<
 {
     let b2 = bit(w.s2, j);
     let z = lent.gate(|t| words_by_bit(e, p, half, b2, t));
-    let v = Sharing {
-        s0: 0,
-        s1: 0,
-        s2: b2,
-    };
+    let v = Sharing { s2: b2, ..zeros() };
     join_shares(p, half, v, z)
 }
 
@@ -128,7 +117,8 @@ fn reduce_sums(e: u64, p: u64, sum: Sharing) -> Sharing
 }
 
 // Bits from, from + 1, .. of w, count of them, with weights 1, 2, 4, .. modulo p.
-pub fn compose_bits(r: Ring, w: Sharing, from: u64, count: u64, lent: &mut Lent<'_>) -> Sharing
+#[inline(always)]
+fn sum_bits(r: Ring, w: Sharing, from: u64, count: u64, lent: &mut Lent<'_>) -> Sharing
     requires bits { from + count ≤ 64 }
     requires supplied { Supplied (modulus_of r) (2 * count) lent.old }
     ensures is { Sends (2 * count) (bits_summed (modulus_of r) from count w result) lent.old lent.new }
@@ -144,6 +134,27 @@ pub fn compose_bits(r: Ring, w: Sharing, from: u64, count: u64, lent: &mut Lent<
         power = next_power(e, power);
     }
     reduce_sums(e, p, sum)
+}
+
+// The same. The gates run on a copy of what is lent: no word that they send can change it, so its addresses stay in registers.
+pub fn compose_bits(r: Ring, w: Sharing, from: u64, count: u64, lent: &mut Lent<'_>) -> Sharing
+    requires bits { from + count ≤ 64 }
+    requires supplied { Supplied (modulus_of r) (2 * count) lent.old }
+    ensures is { Sends (2 * count) (bits_summed (modulus_of r) from count w result) lent.old lent.new }
+    ensures below { InRange (modulus_of r) result }
+{
+    let own = &mut Lent {
+        m0: lent.m0,
+        m1: lent.m1,
+        m2: lent.m2,
+        c0: &mut *lent.c0,
+        c1: &mut *lent.c1,
+        c2: &mut *lent.c2,
+        at: lent.at,
+    };
+    let sum = sum_bits(r, w, from, count, own);
+    lent.at = own.at;
+    sum
 }
 
 // Order 8: all l bits of w.

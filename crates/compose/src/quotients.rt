@@ -8,7 +8,7 @@ ghost use Rattle.circuit.specs.Orders.{conversion};
 ghost use Rattle.compose.specs.Quotients.{Carries, Quoted, quotient_with};
 
 use crate::bits::compose_bits;
-use circuit::{Lent, four_times};
+use circuit::{Lent, four_times, zeros};
 use gate::{Sharing, bit_words};
 use ring::{Ring, bit};
 
@@ -28,22 +28,11 @@ fn low_carry(r: Sharing, lent: &mut Lent<'_>) -> Sharing
     let b0 = bit(r.s0, 0);
     let b1 = bit(r.s1, 0);
     let b2 = bit(r.s2, 0);
-    let x = Sharing {
-        s0: b0,
-        s1: 0,
-        s2: b2,
-    };
-    let y = Sharing {
-        s0: 0,
-        s1: b1,
-        s2: b2,
-    };
+    let third = Sharing { s2: b2, ..zeros() };
+    let x = Sharing { s0: b0, ..third };
+    let y = Sharing { s1: b1, ..third };
     let z = lent.gate(|t| bit_words(x, y, t));
-    Sharing {
-        s0: z.s0,
-        s1: z.s1,
-        s2: b2 ^ z.s2,
-    }
+    Sharing { s2: b2 ^ z.s2, ..z }
 }
 
 // The two bits of one place's share of q, from r and the share of the carry.

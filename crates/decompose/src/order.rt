@@ -19,6 +19,7 @@ use gate::Sharing;
 use ring::Ring;
 
 // (iii) and (iv): the increment of a total's bits from 2 up, and the result.
+#[inline(always)]
 fn increment(total: Sharing, l: u64, lent: &mut Lent<'_>) -> Sharing
     requires count { (1 ≤ l) × (l < 62) }
     requires supplied { Supplied 2 l lent.old }
@@ -32,6 +33,7 @@ fn increment(total: Sharing, l: u64, lent: &mut Lent<'_>) -> Sharing
 }
 
 // (ii) to (iv): from the carries on.
+#[inline(always)]
 fn from_carries(x: Sharing, carries: Sharing, l: u64, lent: &mut Lent<'_>) -> Sharing
     requires count { (1 ≤ l) × (l < 62) }
     requires supplied { Supplied 2 (l + l) lent.old }
@@ -44,9 +46,9 @@ fn from_carries(x: Sharing, carries: Sharing, l: u64, lent: &mut Lent<'_>) -> Sh
     increment(total, l, lent)
 }
 
-// Decomposes a into l bits: 3l + 1 gates.
+// (i) to (iv).
 #[inline(always)]
-pub fn decompose(r: Ring, a: Sharing, l: u64, lent: &mut Lent<'_>) -> Sharing
+fn run_stages(r: Ring, a: Sharing, l: u64, lent: &mut Lent<'_>) -> Sharing
     requires source { InRange (modulus_of r) a }
     requires count { (1 ≤ l) × (l + 2 ≤ width_of r) }
     requires supplied { Supplied 2 (3 * l + 1) lent.old }
@@ -56,4 +58,27 @@ pub fn decompose(r: Ring, a: Sharing, l: u64, lent: &mut Lent<'_>) -> Sharing
     let x = four_times(r, a);
     let carries = carry_stage(x, l + 1, lent);
     from_carries(x, carries, l, lent)
+}
+
+// Decomposes a into l bits: 3l + 1 gates. They run on a copy of what is lent: no word that they send can change it, so its addresses
+// stay in registers.
+pub fn decompose(r: Ring, a: Sharing, l: u64, lent: &mut Lent<'_>) -> Sharing
+    requires source { InRange (modulus_of r) a }
+    requires count { (1 ≤ l) × (l + 2 ≤ width_of r) }
+    requires supplied { Supplied 2 (3 * l + 1) lent.old }
+    ensures left { Sends (3 * l + 1) (circuit_left (decomposition (width_of r) l) (parts a) (parts a) result) lent.old lent.new }
+    ensures below { InRange (2 ^ l) result }
+{
+    let own = &mut Lent {
+        m0: lent.m0,
+        m1: lent.m1,
+        m2: lent.m2,
+        c0: &mut *lent.c0,
+        c1: &mut *lent.c1,
+        c2: &mut *lent.c2,
+        at: lent.at,
+    };
+    let z = run_stages(r, a, l, own);
+    lent.at = own.at;
+    z
 }

@@ -44,7 +44,8 @@ pub fn running_stage(x: Sharing, carries: Sharing, n: u64, lent: &mut Lent<'_>) 
     running
 }
 
-// (iv) The carries of the increment from the first, which is given: n gates.
+// (iv) The carries of the increment from the first, which is given: n gates. One loop for this and the running carries would be passed
+// the gate, its law, the first bits and the place to store at, more than the two lines that both turn.
 #[inline(always)]
 pub fn raising_stage(total: Sharing, first: Sharing, n: u64, lent: &mut Lent<'_>) -> Sharing
     requires count { n < 62 }

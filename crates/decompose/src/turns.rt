@@ -9,7 +9,7 @@ ghost use Rattle.decompose.specs.Turns.{majority_words};
 ghost use Rattle.decompose.specs.Words.{bits_at, bits_xor, digits_of, stored, totalled};
 
 use crate::words::{bits, store};
-use circuit::Lent;
+use circuit::{Lent, zeros};
 use gate::{Sharing, bit_words};
 
 // The majority of x, y and c: c XOR ((x XOR c) AND (y XOR c)).
@@ -38,26 +38,15 @@ pub fn carry_turn(x: Sharing, carries: Sharing, j: u64, lent: &mut Lent<'_>) -> 
     ensures below { InRange (2 ^ (j + 1 + 1)) result }
 {
     let b = bits(x, j);
-    let first = Sharing {
-        s0: b.s0,
-        s1: 0,
-        s2: 0,
-    };
-    let second = Sharing {
-        s0: 0,
-        s1: b.s1,
-        s2: 0,
-    };
-    let third = Sharing {
-        s0: 0,
-        s1: 0,
-        s2: b.s2,
-    };
+    let none = zeros();
+    let first = Sharing { s0: b.s0, ..none };
+    let second = Sharing { s1: b.s1, ..none };
+    let third = Sharing { s2: b.s2, ..none };
     let carry = majority(first, second, third, lent);
     store(carries, carry, j + 1)
 }
 
-// Running carry j + 1, from sum bit, carry and running carry j, which is the last.
+// Running carry j + 1, from sum bit, carry and running carry j, which is the last; the carry's turn hands on to the majority too.
 #[inline(always)]
 pub fn running_turn(
     x: Sharing,

@@ -46,7 +46,7 @@ fn upper_bits(total: u64, raising: u64, l: u64) -> u64
     ((total >> 2) ^ raising) & ((1 << l) - 1)
 }
 
-// The result's words.
+// The result's words: as in storing, the zip is all that is common, and it is one function already.
 pub fn finish(total: Sharing, raising: Sharing, l: u64) -> Sharing
     requires { l < 64 }
     ensures is { result ≡ finished total raising l }

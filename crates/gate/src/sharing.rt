@@ -51,10 +51,6 @@ impl BitXor for Sharing {
     ghost bitxor_gives = { λ a b z. z ≡ record { s0 = bit_xor a.s0 b.s0; s1 = bit_xor a.s1 b.s1; s2 = bit_xor a.s2 b.s2 } };
 
     fn bitxor(self, other: Sharing) -> Sharing {
-        Sharing {
-            s0: self.s0 ^ other.s0,
-            s1: self.s1 ^ other.s1,
-            s2: self.s2 ^ other.s2,
-        }
+        self.zip(other, |a, b| a ^ b)
     }
 }

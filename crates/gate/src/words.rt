@@ -91,7 +91,7 @@ fn mask_alone(e: u64, p: u64, t: u64, tf: u64) -> u64
     reduce_once(e, p, mask_word(p, t, tf))
 }
 
-// z_0, z_1 and z_2 modulo p = 2^e - 1, of a bit at place 0 with a bit at place 1.
+// z_0, z_1 and z_2 modulo p = 2^e - 1, of a bit at place 0 with a bit at place 1. Not mapped: only z_0 has a product.
 pub fn words_of_bits(e: u64, p: u64, b0: u64, b1: u64, t: Sharing) -> Sharing
     requires sized { Sized e p }
     requires left { b0 < 2 }
@@ -107,8 +107,8 @@ pub fn words_of_bits(e: u64, p: u64, b0: u64, b1: u64, t: Sharing) -> Sharing
     }
 }
 
-// z_0, z_1 and z_2 modulo p = 2^e - 1, of x, which need not be reduced, with a bit at place 2. The last word is made first: the
-// other way round the compiler keeps a counter of composing's loop in memory, a tenth of that order's time.
+// z_0, z_1 and z_2 modulo p = 2^e - 1, of x, which need not be reduced, with a bit at place 2. Not mapped: z_0 has no product. The last
+// word is made first: the other way round the compiler keeps a counter of composing's loop in memory, a tenth of that order's time.
 pub fn words_by_bit(e: u64, p: u64, x: Sharing, b2: u64, t: Sharing) -> Sharing
     requires sized { Sized e p }
     requires left { InRange (2 * p + 2) x }

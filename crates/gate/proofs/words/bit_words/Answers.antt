@@ -1,4 +1,3 @@
-use Rattle.gate.specs.Places.{PairBelow, pair}
 use Rattle.gate.proofs.WordLaw.{gate-words, words_hold}
 use Rattle.gate.proofs.words.bit_words.Goals as goal
 

@@ -6,7 +6,7 @@ use Rattle.ring.specs.Rings.{Sized}
 use Rattle.ring.proofs.RangeLaw.{sized, sized_gt}
 use Rattle.circuit.proofs.LoanLaw.{supplied_later}
 use Rattle.compose.proofs.TurnLaw.{all-summed, at-start, went_on}
-use Rattle.compose.proofs.bits.compose_bits.Goals as goal
+use Rattle.compose.proofs.bits.sum_bits.Goals as goal
 
 pub loop-k-init : goal.loop-k-init
 loop-k-init c =

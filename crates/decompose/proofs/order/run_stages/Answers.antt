@@ -7,7 +7,7 @@ use Rattle.circuit.specs.Decompose.{carry_gate}
 use Rattle.circuit.proofs.LoanLaw.{sends_count, sends_then, supplied_later}
 use Rattle.circuit.proofs.RunLaw.{length-upto}
 use Rattle.decompose.proofs.StageLaw.{ended_then, left_is}
-use Rattle.decompose.proofs.order.decompose.Goals as goal
+use Rattle.decompose.proofs.order.run_stages.Goals as goal
 
 pub from_carries-requires-clause-supplied : goal.from_carries-requires-clause-supplied
 from_carries-requires-clause-supplied c =
