@@ -1,9 +1,8 @@
 -- Lengths that are refused, and those that give the gates what they take.
 use Prim.Native.Nat.{◌+◌}
-use mathlib.Core.Path.{refl, ap, sym, ◌∙◌}
+use mathlib.Core.Path.{refl, ap, ◌∙◌}
 use Rattle.gate.specs.Places.{three}
 use Rattle.machine.specs.Checks.{Lengths, first_met, gate_checks}
-use Rattle.order.specs.Attempts.{attempted}
 use Rattle.order.specs.Sources.{public_at}
 use Rattle.order.proofs.CostLaw.{costs}
 use Rattle.order.proofs.StepLaw.{passed_change}
