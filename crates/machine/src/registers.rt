@@ -85,27 +85,25 @@ impl Machine {
 
     // The record with another register d.
     #[tactic(auto, unfolding(crate::specs::Registers::with_register))]
-    pub fn with_register(self, d: u64, r: Register) -> Machine
+    pub fn with_register(mut self, d: u64, r: Register) -> Machine
         requires { d < 16 }
         ensures { result ≡ with_register self d r }
     {
-        let mut changed = self;
-        changed.slots[d as usize] = r;
-        changed
+        self.slots[d as usize] = r;
+        self
     }
 
     // The record with positions that have risen.
-    pub fn moved(self, gates: u64, words: u64, items: u64) -> Machine
+    pub fn moved(mut self, gates: u64, words: u64, items: u64) -> Machine
         requires masks { self.masks_at + gates < 2 ^ 64 }
         requires channels { self.channels_at + words < 2 ^ 64 }
         requires dealer { self.dealer_at + items < 2 ^ 64 }
         ensures { result ≡ moved self gates words items }
     {
-        let mut risen = self;
-        risen.masks_at += gates;
-        risen.channels_at += words;
-        risen.dealer_at += items;
-        risen
+        self.masks_at += gates;
+        self.channels_at += words;
+        self.dealer_at += items;
+        self
     }
 }
 

@@ -91,8 +91,7 @@ fn narrow_rows(o: &mut [u64; 64], z: &mut [u64])
     split(o, z);
 }
 
-// The words of 64 figures of a ring, from their planes, which are used up. The cases are those of `planes_of`, and the steps
-// others.
+// The words of 64 figures of a ring, from their planes, which are used up: the cases are as above, the steps are not.
 pub fn rows_of(r: Ring, o: &mut [u64; 64], z: &mut [u64])
     requires room { length z.old ≡ 64 }
     requires width { NoneFrom (width_of r) o.old }
