@@ -14,7 +14,7 @@ use machine::Refusal;
 use order::Positions;
 use ring::Ring;
 
-// Figures of a batch, one a bit of a word.
+// Figures of a batch, one a bit of a word: a length to compare, and a count of items in u64, which `as` makes of 64 with nothing lost.
 const COUNT: usize = 64;
 
 // Whether one of three runs is not 64 long.
