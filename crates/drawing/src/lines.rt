@@ -1,4 +1,4 @@
-// Tape lines from items, put at places of a slice that the caller lends: there is no heap, so `out` and `at` stand side by side.
+// Tape lines from items.
 ghost use Rattle.std.specs.Prelude.{◌≡◌, ◌+◌, ◌*◌, ◌≤◌, ◌<◌, length};
 ghost use Rattle.line.specs.Printed.{Wrote};
 ghost use Rattle.drawing.specs.Lines.{line_of, lines_of, per_line};
@@ -32,7 +32,7 @@ fn put_masks(items: &[u64], k: usize, out: &mut [u8], at: usize) -> usize
     put_field(out, c, items[3 * k + 2], b'\n')
 }
 
-// The same for the dealer's tape.
+// The same for the dealer's tape. The line goes to a place of a slice that the caller lends: there is no heap.
 fn put_dealer(items: &[u64], k: usize, out: &mut [u8], at: usize) -> usize
     requires items { k < length items.now }
     requires room { at + 84 ≤ length out.old }

@@ -6,8 +6,7 @@ use mathlib.Core.List.{List, [], ◌∷◌}
 use mathlib.Core.Path.{◌≡◌, ap, ap₂, refl, ◌∙◌}
 use native.Mathlib.Omega.{arith}
 use borrow.Author.Tests.{eq-eqb, ne_eqb}
-use lib.ListN.{drop_of_length-le, length, set}
-use lib.Seq.{sets-eq}
+use lib.ListN.{length}
 use Rattle.gate.specs.Places.{Place}
 use Rattle.machine.specs.Checks.{Tapes}
 use Rattle.machine.specs.Step.{Outcome, step}
@@ -66,18 +65,15 @@ pub step_left : {n : ℕ} {ws words : List ℕ} {a : Result Done Refusal} {c : P
     → Reports ws a c x → n ≡ refusal_of a → words ≡ answer_words a → left n ws words c ≡ left_by x
 step_left {ws} {words} {c = c} {x = x} told en ea = rw (en, ea, told.words.words) (ap left_by told.is)
 
-two-written : (a : List ℕ) (n k : ℕ) → length a ≡ 2 → set (set a 0 n) 1 k ≡ n ∷ k ∷ []
-two-written a n k h = sets-eq (n ∷ k ∷ []) a 0 (omega arith) ∙ rw (drop_of_length-le a {i = 2} (omega arith))
-
 pub tape-refused : (code : ℕ) (raw run a : List ℕ) → (length a ≡ 2 → ⊥) → tape malformed run a ≡ prepare_words code raw run a
 unfolding prepare_words
 tape-refused code raw run a h = rw (ne_eqb (length a) 2 h)
 
 pub tape-written : (code : ℕ) (raw run a : List ℕ) {n k : ℕ} {filled : List ℕ} (p : Result ℕ Refused)
     → length a ≡ 2 → outcome p filled ≡ prepared code raw run → n ≡ tapes.refusal_of p → k ≡ count_of p
-    → tape n filled (set (set a 0 n) 1 k) ≡ prepare_words code raw run a
+    → tape n filled (n ∷ k ∷ []) ≡ prepare_words code raw run a
 unfolding prepare_words
-tape-written code raw run a p h e en ek = rw (eq-eqb (length a) 2 h, two-written a _ _ h, en, ek) (ap tape_by e)
+tape-written code raw run a p h e en ek = rw (eq-eqb (length a) 2 h, en, ek) (ap tape_by e)
 
 -- a batch: an answer of another length than 3, and what is left otherwise
 module _ (e l : ℕ) (x T c z : Place → List ℕ) (a : List ℕ) where

@@ -10,6 +10,7 @@ use layout::write_answer;
 use order::refusal;
 
 // 02's batch; the answer is an order's. MALFORMED where the answer has not three words, and then nothing changes.
+// The runs stay slices, one a parameter: programs in other languages lend them so.
 #[unsafe(no_mangle)]
 pub extern "C" fn survey_batch(
     width: u64,

@@ -10,6 +10,7 @@ use order::refusal;
 use step::step_words;
 
 // 01's step; MALFORMED where the words of order, record or answer are in no layout, and then nothing changes.
+// The runs stay slices, one a parameter: programs in other languages lend them so.
 #[unsafe(no_mangle)]
 pub extern "C" fn survey_step(
     order: &[u64],

@@ -8,6 +8,7 @@ use crate::MALFORMED;
 use tape::{Refused, prepare};
 
 // 01's preparation; the answer is the refusal number or 0, and the raw words used. MALFORMED where the answer has not two words.
+// The ring's code is a number: programs in other languages give one.
 #[unsafe(no_mangle)]
 pub extern "C" fn survey_prepare(code: u64, raw: &[u64], run: &mut [u64], answer: &mut [u64]) -> u64
     ensures is { tape result run.new answer.new ≡ prepare_words code raw.now run.old answer.old }
@@ -17,12 +18,11 @@ pub extern "C" fn survey_prepare(code: u64, raw: &[u64], run: &mut [u64], answer
         return MALFORMED;
     }
     let (refusal, count) = told(prepare(code, raw, run));
-    answer[0] = refusal;
-    answer[1] = count;
+    answer.copy_from_slice(&[refusal, count]);
     refusal
 }
 
-// The refusal number or 0, and the raw words used.
+// The refusal number or 0, and the raw words used. There is no From of a usize for a u64, and the cast loses nothing.
 fn told(prepared: Result<usize, Refused>) -> (u64, u64)
     ensures { result ≡ (refusal_of prepared, count_of prepared) }
 {

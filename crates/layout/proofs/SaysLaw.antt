@@ -1,5 +1,5 @@
 -- Words laid out as a record: its registers and positions in them, and a change of them.
-use Rattle.std.specs.Prelude.{Some, None, Option}
+use Rattle.std.specs.Prelude.{Some}
 use Prim.Native.Nat.{ℕ, suc, ◌+◌, ◌*◌, ◌-◌, ◌<◌, ◌≤◌, ◌^◌}
 use mathlib.Core.List.{List, [], ◌∷◌, ◌++◌, append_assoc}
 use mathlib.Core.Path.{◌≡◌, sym, ap, ◌∙◌}
@@ -19,13 +19,6 @@ use Rattle.layout.proofs.WriteLaw.{from_register, one-changed, positions-changed
 
 pub said : (ws : List ℕ) (m : Machine) → machine_of ws ≡ Some m → Says ws m
 said ws m e = let w = machine_written ws m e in record { words = sym w.0; registers = w.1 }
-
--- one register is read
-pub read_is : {q : Option Register} {r s : Register} → q ≡ Some r → q ≡ Some s → r ≡ s
-read_is e h = cc
-
-pub read_there : {q : Option Register} {r s : Register} → q ≡ None → q ≡ Some s → r ≡ s
-read_there e h = cc
 
 module _ {ws : List ℕ} {m : Machine} (says : Says ws m) where
   pub says_length : length ws ≡ 83

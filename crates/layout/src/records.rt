@@ -1,5 +1,4 @@
 // A machine record in 83 words: sixteen registers, then three positions. It is read and changed where it stands.
-// A register's number is below 16 where it is cast to usize: TryFrom would add a failure that never comes.
 ghost use Rattle.std.specs.Prelude.{◌≡◌, ◌+◌, ◌<◌, ◌^◌, get_or, length};
 ghost use Rattle.machine.specs.Registers.{register_at};
 ghost use Rattle.machine.specs.Step.{moved};
@@ -37,7 +36,7 @@ pub fn see(words: &[u64]) -> Option<bool>
     Some(sound & placed)
 }
 
-// Register k of a record, empty past the last.
+// Register k of a record, empty past the last. Below 16 the cast loses nothing: TryFrom would add a failure that never comes.
 pub fn register_at(words: &[u64], k: u64) -> Register
     requires { (m : Machine) × Says words.now m }
     ensures { (m : Machine) → Says words.now m → result ≡ register_at m k }
@@ -65,7 +64,7 @@ fn rise(gates: u64, sent: u64, items: u64, words: &mut [u64])
     words[DEALER_AT] = c;
 }
 
-// The words of a record with a change.
+// The words of a record with a change. Its register's number is below 16, so the cast loses nothing.
 fn write_made(k: Change, words: &mut [u64])
     requires { (m : Machine) × Says words.old m × Makes m k }
     ensures { (m : Machine) → Says words.old m → Makes m k → Says words.new (made k m) }

@@ -1,10 +1,10 @@
-// The line that is printed for an order, at a place of a slice that the caller lends: there is no heap.
+// The line that is printed for an order.
 ghost use Rattle.std.specs.Prelude.{◌≡◌, ◌+◌, ◌≤◌, length};
 ghost use Rattle.line.specs.Printed.{Wrote, field, printed};
 
 use itoa::Buffer;
 
-// Writes the decimal of n at `at`, with a byte after it, and answers the place after both.
+// Writes the decimal of n at `at`, with a byte after it, and answers the place after both: the slice is the caller's, as there is no heap.
 pub fn put_field(out: &mut [u8], at: usize, n: u64, end: u8) -> usize
     requires { at + 21 ≤ length out.old }
     ensures writes { Wrote at (field n end) out.old out.new result }

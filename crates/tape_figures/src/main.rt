@@ -12,7 +12,7 @@ fn main(rt: HostRuntime) -> io::Result<()> {
     show(&rt, 13, &few)
 }
 
-// The code is a number, as it is prepared for: the last one shown is no ring's.
+// The code is a number, as a tape is prepared for one: 14 is no ring's.
 fn show(rt: &impl Print, code: u64, raw: &[u64]) -> io::Result<()> {
     let mut run = [7, 9];
     match tape::prepare(code, raw, &mut run) {
