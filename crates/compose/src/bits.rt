@@ -38,7 +38,7 @@ fn join_shares(p: u64, u: Sharing, v: Sharing, z: Sharing) -> Sharing
     Sharing { s0, s1, s2 }
 }
 
-// Sub-share 0 of bit j of w with sub-share 1; what they give is not reduced.
+// Sub-share 0 of bit j of w with sub-share 1; what they give is not reduced. Each bit has a place of its own: nothing to map.
 fn join_first(e: u64, p: u64, w: Sharing, j: u64, lent: &mut Lent<'_>) -> Sharing
     requires sized { Sized e p }
     requires place { j < 64 }

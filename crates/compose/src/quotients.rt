@@ -19,7 +19,7 @@ fn negated(x: u64) -> u64
     (4 - (x & 3)) & 3
 }
 
-// The shares of the majority of bits 0 of r_0, r_1 and r_2, by one gate.
+// The shares of the majority of bits 0 of r_0, r_1 and r_2, by one gate. Each bit has a place of its own: nothing to map.
 fn low_carry(r: Sharing, lent: &mut Lent<'_>) -> Sharing
     requires { Supplied 2 1 lent.old }
     ensures is { Sends 1 (λ T c d. Carries (parts r) T c result d) lent.old lent.new }

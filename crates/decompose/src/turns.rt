@@ -28,7 +28,7 @@ fn majority(x: Sharing, y: Sharing, c: Sharing, lent: &mut Lent<'_>) -> Sharing
     c ^ z
 }
 
-// Carry j + 1, from bits j of x_0, x_1 and x_2, each known at one place.
+// Carry j + 1, from bits j of x_0, x_1 and x_2, each known at one place: so the three sharings are no map of b.
 #[inline(always)]
 pub fn carry_turn(x: Sharing, carries: Sharing, j: u64, lent: &mut Lent<'_>) -> Sharing
     requires bit { j < 63 }
