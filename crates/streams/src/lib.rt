@@ -36,5 +36,6 @@ fn fail(rt: HostRuntime, name: &[u8], error: &Error) {
 
 // An error's text without the system's number, which stands at its end.
 fn without_number(text: &str) -> &str {
-    text.split_once(" (os error ").map_or(text, |(reason, _)| reason)
+    text.split_once(" (os error ")
+        .map_or(text, |(reason, _)| reason)
 }
