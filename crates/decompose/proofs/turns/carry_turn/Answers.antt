@@ -2,7 +2,6 @@
 use mathlib.Core.Path.{◌≡◌, refl, subst}
 use Rattle.gate.specs.declared.sharing.Sharing.{Sharing}
 use Rattle.circuit.specs.Loans.{Sends, items_next, words_sent}
-use Rattle.circuit.specs.Sharings.{zeros}
 use Rattle.circuit.proofs.LoanLaw.{turn_sent}
 use Rattle.decompose.specs.Turns.{majority_words}
 use Rattle.decompose.specs.Words.{bits_xor}
