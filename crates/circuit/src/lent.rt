@@ -5,6 +5,7 @@ ghost use Rattle.circuit.specs.Loans.{Room, Sends, items_next, words_sent};
 use gate::Sharing;
 
 // Gate `at` takes item `at` of each mask tape and writes word `at` of each channel.
+// Three runs of each, as C lends them one by one: `items` and `send` name the three, and no gate does.
 #[derive(Drop)]
 pub struct Lent<'a> {
     pub m0: &'a [u64],

@@ -58,7 +58,7 @@ fn few(text: &[u8]) -> Option<u64>
     read_number(text).filter(|count| *count <= MOST_LINES)
 }
 
-// The third.
+// The third. No `TryFrom`: of bytes that are no kind there is nothing to say, and `ask` has the error.
 #[tactic(auto, unfolding(crate::specs::Asks::kind_of))]
 fn kind_of(text: &[u8]) -> Option<Kind>
     ensures { result ≡ kind_of text.now }

@@ -1,4 +1,5 @@
 // Items drawn from raw bytes, printed as tape lines. The ring code stays a number, since a tape is prepared for one.
+// What is written here and in lines.rt and raws.rt goes to slices that the caller lends: there is no heap.
 ghost use Rattle.std.specs.Prelude.{◌≡◌, ◌*◌, ◌≤◌, IfOk, length};
 ghost use Rattle.tape.specs.Tapes.{prepared};
 ghost use Rattle.drawing.specs.Draws.{Drew, drawn, drawn_by};

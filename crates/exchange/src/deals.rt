@@ -58,7 +58,7 @@ fn dealt(at: u64, e: u64, v: u64, dealer: &[u64]) -> Result<Register, Refusal>
     Ok(shared(r, v, r0, r1))
 }
 
-// Order 1.
+// Order 1. It has no source, so it takes soundness and its position alone, and no `Sources`.
 pub fn deal(sound: bool, at: u64, d: u64, e: u64, v: u64, dealer: &[u64]) -> Result<Change, Refusal>
     ensures { (m : Machine) → Dealing m sound at → (M c : Place → List ℕ)
         → Changes m result c (step (Order.Deal d e v) m (record { masks = M; dealer = dealer.now }) c) }

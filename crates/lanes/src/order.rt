@@ -49,7 +49,8 @@ fn work(x: &mut Planes, l: usize, e: usize, lent: &mut Lent<'_>)
     increment(&s, l, e, lent, x);
 }
 
-// Decomposes figure k into l bits for each k, with bit k of each item: 3l + 1 gates. The ring's width counts planes here.
+// Decomposes figure k into l bits for each k, with bit k of each item: 3l + 1 gates. The ring's width counts planes here:
+// usize has no From of a u64, and `as` loses nothing of at most 61.
 pub fn decompose_lanes(
     r: Ring,
     l: usize,

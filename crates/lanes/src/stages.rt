@@ -1,4 +1,5 @@
-// The stages of order 5, each a loop over gates of one kind.
+// The stages of order 5, each a loop over gates of one kind. Apart from decompose's: planes are kept in arrays, bits of one figure
+// in words.
 ghost use Rattle.std.specs.Prelude.{ℕ, ◌+◌, ◌<◌};
 ghost use Rattle.circuit.specs.Circuits.{upto};
 ghost use Rattle.circuit.specs.Decompose.{carry_gate};

@@ -1,4 +1,5 @@
 // A machine record in 83 words: sixteen registers, then three positions. It is read and changed where it stands.
+// C lends it as a slice, so contracts say what its words say (`Says`).
 ghost use Rattle.std.specs.Prelude.{◌≡◌, ◌+◌, ◌<◌, ◌^◌, get_or, length};
 ghost use Rattle.machine.specs.Registers.{register_at};
 ghost use Rattle.machine.specs.Step.{moved};
@@ -48,7 +49,7 @@ pub fn register_at(words: &[u64], k: u64) -> Register
     read_register(&words[at..]).unwrap_or(Register::Empty)
 }
 
-// The positions of a record, risen.
+// The positions of a record, risen. All three sums are made before one is written, so no loop goes over the three.
 fn rise(gates: u64, sent: u64, items: u64, words: &mut [u64])
     requires long { length words.old ≡ 83 }
     requires masks { get_or words.old 80 0 + gates < 2 ^ 64 }

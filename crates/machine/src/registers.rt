@@ -72,7 +72,8 @@ impl Machine {
         }
     }
 
-    // Register k, empty past the last. Here and below a register's number is a u64, as C and a line give it.
+    // Register k, empty past the last. Here and below a register's number is a u64, as C and a line give it,
+    // and `as` loses nothing of one below 16.
     #[tactic(auto, unfolding(crate::specs::Registers::register_at))]
     pub fn register(self, k: u64) -> Register
         ensures { result ≡ register_at self k }

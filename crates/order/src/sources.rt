@@ -1,7 +1,8 @@
 // What orders read of a record.
 use machine::Register;
 
-// Whether it is sound, and the registers that an order names as sources x and y.
+// Whether it is sound, and the registers that an order names as sources x and y: a flag beside them, since an unsound record's
+// are read as well.
 #[derive(Clone, Copy)]
 pub struct Sources {
     pub sound: bool,

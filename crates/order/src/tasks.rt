@@ -7,7 +7,8 @@ use gate::Sharing;
 use machine::Register;
 use ring::Ring;
 
-// What an order with gates works on: rings, sub-shares and its own number.
+// What an order with gates works on: rings, sub-shares and its own number. That one fits (`Fit`) four contracts say: a struct of it and
+// a task would be made in each order and taken apart at each match.
 #[derive(Clone, Copy)]
 pub enum Task {
     Multiply(Ring, Sharing, Sharing),

@@ -19,7 +19,7 @@ fn any_above15(names: &[u64]) -> bool
     names.iter().any(|k| 15 < *k)
 }
 
-// Checks 1 and 2, of an order that names these registers.
+// Checks 1 and 2, of an order that names these registers. A deal, which has no sources, calls it too: so it takes no `Sources`.
 pub fn begin(sound: bool, names: &[u64]) -> Result<(), Refusal>
     ensures { verdict_of result ≡ first_met (begin_checks sound names.now) }
 {
@@ -45,7 +45,7 @@ fn a_number(x: Register) -> Result<(Ring, Sharing), Refusal>
     }
 }
 
-// Checks 3 and 4 of a source that must be bits: how many, and its sub-shares.
+// Checks 3 and 4 of a source that must be bits: how many, and its sub-shares. Apart from `a_number`: it answers other fields.
 #[tactic(auto, unfolding(machine::specs::Checks::first_met))]
 fn some_bits(x: Register) -> Result<(u64, Sharing), Refusal>
     ensures refusal { verdict_of result ≡ first_met (some_bits (kind_of x)) }

@@ -1,5 +1,5 @@
 // Words of 64 figures to planes, and back. In a ring of at most 32 bits two figures share a row, k in the low half and k + 32 in
-// the high half: then 32 rows and five levels do.
+// the high half: then 32 rows and five levels do. Results stay slices, of 64 words, as C lends them; planes are arrays.
 ghost use Rattle.std.specs.Prelude.{◌≡◌, ◌+◌, ◌≤◌, length};
 ghost use Rattle.ring.specs.Rings.{modulus_of, width_of};
 ghost use Rattle.planes.specs.Planes.{Copied, Figures, NoneFrom, PlanesOf, Split, four_times_at, words_at};

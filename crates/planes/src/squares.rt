@@ -44,7 +44,7 @@ pub fn transpose_halves(rows: &mut [u64], n: usize)
     level(rows, n, 16, 0xffff0000ffff0000);
 }
 
-// Bit c of row r becomes bit r of row c.
+// Bit c of row r becomes bit r of row c. Rows as a slice: halves of 32 rows and squares of 64 go through the same levels.
 pub fn transpose(rows: &mut [u64])
     requires { length rows.old ≡ 64 }
     ensures is { Transposed rows.old rows.new }

@@ -20,7 +20,7 @@ impl Ring {
     // u of document 000, the logarithm of 3 to base 2, rounded up: the quotient of three sub-shares' total by p fits u bits.
     pub const U: u64 = 2;
 
-    // The ring of a width, where there is one.
+    // The ring of a width, where there is one. No `TryFrom`: the refusal is the caller's to name, so an error of its own would say nothing.
     #[tactic(auto, unfolding(crate::specs::Rings::ring_of))]
     pub fn of_width(e: u64) -> Option<Ring>
         ensures { result ≡ ring_of e }
@@ -33,7 +33,7 @@ impl Ring {
         }
     }
 
-    // e.
+    // e. A match over the names that `of_width` and a batch's check match on: as numbers of the cases they would stand a second time.
     pub fn width(self) -> u64
         ensures { result ≡ width_of self }
     {

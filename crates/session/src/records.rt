@@ -44,7 +44,7 @@ impl SoundRecord {
         SoundRecord { words: [0; WORDS] }
     }
 
-    // The record that words say, a sound one.
+    // The record that words say, a sound one: a job can be taken up at any.
     pub fn of(words: [u64; WORDS]) -> SoundRecord
         requires { RecordFits words }
         ensures { result ≡ machine_in words }

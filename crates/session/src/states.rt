@@ -35,7 +35,7 @@ impl Kept {
         }
     }
 
-    // What a line does, and what it is answered.
+    // What a line does, and what it is answered. One `match`: each command takes other fields and another part of what is kept.
     pub fn take_command(&mut self, command: Command) -> Option<Reply>
         ensures { turned (state_of self.new) result ≡ taken (state_of self.old) command }
     {

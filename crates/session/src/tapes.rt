@@ -51,7 +51,7 @@ impl TapeLines {
         None
     }
 
-    // 01: "kind 10 adds one dealer item".
+    // 01: "kind 10 adds one dealer item". It is no case of `add_masks`: that takes three items, and fills three.
     pub fn add_item(&mut self, item: u64) -> Option<Reply>
         ensures { (m : Machine) (c : Place → List ℕ) → turned (state m (tapes_in self.new) c) result
             ≡ item_taken (state m (tapes_in self.old) c) item }

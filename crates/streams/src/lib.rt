@@ -14,6 +14,7 @@ pub fn tell_unread(rt: HostRuntime, name: &[u8], got: &io::Result<usize>) {
 }
 
 // Writes all of the bytes to standard output, and answers whether it could. A pipe that nobody reads any more is not told.
+// That is all that a caller asks: the error is told here, so it answers a bool and no Result.
 pub fn write(rt: HostRuntime, name: &[u8], bytes: &[u8]) -> bool {
     let Err(error) = rt.stdout().write_all(bytes) else {
         return true;

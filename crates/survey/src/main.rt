@@ -61,7 +61,8 @@ impl Program {
         last
     }
 
-    // A whole job: all chunks, then the end of input, if all before it could be read and written.
+    // A whole job: all chunks, then the end of input, if all before it could be read and written. Tested and not taken apart by `?`:
+    // what is answered is the last chunk's answer, whole.
     fn run(&mut self, rt: HostRuntime) -> Result<usize, Failure>
         requires { standing_of self.old.job ≡ begun }
         ensures { Ran (standing_of self.new.job) result self.new.buf self.new.out }

@@ -6,7 +6,7 @@ ghost use Rattle.tape.specs.Tapes.{fill, limit_of, number_of, outcome, prepared,
 use crate::items::Items;
 use crate::passes::{enough, fill_run};
 
-// Why no tape was prepared, each with 01's number.
+// Why no tape was prepared, each with 01's number. Not machine's `Refusal`: a tape stands below it, and meets these two alone.
 #[derive(Clone, Copy, Debug, PartialEq, Eq)]
 pub enum Refused {
     NoRing = 5,

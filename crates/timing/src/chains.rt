@@ -38,7 +38,7 @@ fn lengths_fit(x: usize, y: usize, items: usize, n0: usize, n1: usize, n2: usize
     (x == 3) & (y == 3) & same_lengths(n1, n2, n0) & (n0 <= items / 3)
 }
 
-// Gates modulo p = 2^e - 1 from x on, up to the first item out of range.
+// Gates modulo p = 2^e - 1 from x on, up to the first item out of range. Width and modulus are found once before the loop.
 fn run_chain(
     e: u64,
     p: u64,

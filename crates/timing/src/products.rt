@@ -13,7 +13,7 @@ pub fn same_lengths(a: usize, b: usize, n: usize) -> bool
     (a == n) & (b == n)
 }
 
-// x × y modulo p = 2^e - 1, or 0 where one is out of range.
+// x × y modulo p = 2^e - 1, or 0 where one is out of range. Width and modulus are found once before the loop over elements.
 #[tactic(auto, unfolding(crate::specs::Products::product))]
 fn checked_product(e: u64, p: u64, x: u64, y: u64) -> u64
     requires sized { Sized e p }
