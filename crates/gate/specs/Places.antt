@@ -1,5 +1,5 @@
 -- 01, "Rings, parts and units": three sub-shares, and the two that each unit holds. A unit is a party here.
-use Rattle.std.specs.Prelude.{ℕ, ◌+◌, ◌%◌, ◌<◌, List, ◌≡◌, length, set}
+use Rattle.std.specs.Prelude.{ℕ, ◌+◌, ◌%◌, ◌<◌, Bool, ◌&&◌, List, ◌≡◌, length, ltb, set}
 use Rattle.gate.specs.declared.sharing.Sharing.{Sharing}
 
 -- "such indices are taken modulo 3"
@@ -51,6 +51,10 @@ pub record InRange (m : ℕ) (x : Sharing) : Type 0 where
   pub zero : x.s0 < m
   pub one : x.s1 < m
   pub two : x.s2 < m
+
+-- the test of it
+abbrev pub shares_below : ℕ → Sharing → Bool
+shares_below m x = ltb x.s0 m && (ltb x.s1 m && ltb x.s2 m)
 
 pub record PairBelow (m : ℕ) (x : Pair) : Type 0 where
   pub own : x.own < m

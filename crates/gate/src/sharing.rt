@@ -1,5 +1,6 @@
 // The sub-shares of one number or bit, one a place: 01's register holds one.
 ghost use Rattle.std.specs.Prelude.{◌≡◌, bit_xor};
+ghost use Rattle.gate.specs.Places.{shares_below};
 
 use std::ops::BitXor;
 
@@ -41,6 +42,13 @@ impl Sharing {
         let s1 = f(self.s1, other.s1);
         let s2 = f(self.s2, other.s2);
         Sharing { s0, s1, s2 }
+    }
+
+    // Whether each sub-share is below m. By place: three tests by `map` would need a test of the three results besides.
+    pub fn is_below(self, m: u64) -> bool
+        ensures { result ≡ shares_below m self }
+    {
+        (self.s0 < m) & ((self.s1 < m) & (self.s2 < m))
     }
 }
 

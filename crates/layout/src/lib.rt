@@ -8,4 +8,4 @@ mod registers;
 
 pub use answers::write_answer;
 pub use orders::read_order;
-pub use records::{CHANNELS_AT, DEALER_AT, MASKS_AT, register_at, see, write_change};
+pub use records::{CHANNELS_AT, DEALER_AT, MASKS_AT, RECORD_WORDS, register_at, see, write_change};

@@ -17,13 +17,13 @@ pub const CHANNELS_AT: usize = MASKS_AT + 1;
 
 pub const DEALER_AT: usize = MASKS_AT + 2;
 
-const WORDS: usize = MASKS_AT + 3;
+pub const RECORD_WORDS: usize = MASKS_AT + 3;
 
 // Whether words say a sound record, where they say one: looks at every word. An unsound record is a record too.
 pub fn see(words: &[u64]) -> Option<bool>
     ensures { result ≡ seen_of (machine_of words.now) }
 {
-    if words.len() != WORDS {
+    if words.len() != RECORD_WORDS {
         return None;
     }
     let mut sound = true;

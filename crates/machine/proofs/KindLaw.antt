@@ -6,10 +6,11 @@ use borrow.Author.Tests.{leb-true, ltb-true}
 use lib.Dec.{leb, ltb}
 use Rattle.ring.specs.Rings.{modulus_of}
 use Rattle.ring.specs.declared.rings.Ring.{Ring}
-use Rattle.gate.specs.Places.{InRange, total}
+use Rattle.gate.specs.Places.{InRange, shares_below, total}
 use Rattle.gate.specs.declared.sharing.Sharing.{Sharing}
+use Rattle.gate.proofs.PlaceLaw.{in_range}
 use Rattle.machine.specs.Checks.{is_number}
-use Rattle.machine.specs.Registers.{Kind, bits, empty, number, ring_at, shares_below, sound_register}
+use Rattle.machine.specs.Registers.{Kind, bits, empty, number, ring_at, sound_register}
 use Rattle.machine.specs.Step.{value_of}
 use Rattle.machine.specs.declared.registers.Register.{Register}
 use Rattle.machine.specs.declared.registers.Register.TheVariants.{Bits, Number}
@@ -34,19 +35,10 @@ other_false false b h = h
 pub neither : (a b : Bool) → a || b ≡ false → (a ≡ false) × (b ≡ false)
 neither a b h = (one_false a b h, other_false a b h)
 
-shares_below_lem : (m : ℕ) (x : Sharing) → shares_below m x ≡ true → InRange m x
-shares_below_lem m x h =
-    let rest = right_true (ltb x.s0 m) (ltb x.s1 m && ltb x.s2 m) h in
-    record {
-      zero = ltb-true x.s0 m (left_true (ltb x.s0 m) (ltb x.s1 m && ltb x.s2 m) h);
-      one = ltb-true x.s1 m (left_true (ltb x.s1 m) (ltb x.s2 m) rest);
-      two = ltb-true x.s2 m (right_true (ltb x.s1 m) (ltb x.s2 m) rest);
-    }
-
 module _ (a : Register) (sound : sound_register a ≡ true) where
   pub number_below : (r : Ring) (x : Sharing) → a ≡ Number r x → InRange (modulus_of r) x
   unfolding sound_register
-  number_below r x e = shares_below_lem (modulus_of r) x (rw e at sound)
+  number_below r x e = in_range (rw e at sound)
 
   pub bits_below : (l : ℕ) (x : Sharing) → a ≡ Bits l x → (1 ≤ l) × (l ≤ 59) × InRange (2 ^ l) x
   unfolding sound_register
@@ -55,7 +47,7 @@ module _ (a : Register) (sound : sound_register a ≡ true) where
       let rest = right_true (leb 1 l) (leb l 59 && shares_below (2 ^ l) x) h in (
         leb-true 1 l (left_true (leb 1 l) (leb l 59 && shares_below (2 ^ l) x) h),
         leb-true l 59 (left_true (leb l 59) (shares_below (2 ^ l) x) rest),
-        shares_below_lem (2 ^ l) x (right_true (leb l 59) (shares_below (2 ^ l) x) rest),
+        in_range (right_true (leb l 59) (shares_below (2 ^ l) x) rest),
       )
 
 -- a number is of its ring

@@ -1,8 +1,9 @@
 -- 01, "Rings, parts and units": registers, the machine record and its soundness.
-use Rattle.std.specs.Prelude.{ℕ, ◌^◌, Bool, true, ◌&&◌, List, [], ◌∷◌, map, leb, ltb, get_or, replicate, set}
+use Rattle.std.specs.Prelude.{ℕ, ◌^◌, Bool, true, ◌&&◌, List, [], ◌∷◌, map, leb, get_or, replicate, set}
 use Rattle.ring.specs.Rings.{modulus_of, width_of}
 use Rattle.ring.specs.declared.rings.Ring.{Ring}
 use Rattle.ring.specs.declared.rings.Ring.TheVariants.{R13}
+use Rattle.gate.specs.Places.{shares_below}
 use Rattle.gate.specs.declared.sharing.Sharing.{Sharing}
 use Rattle.circuit.specs.Sharings.{zeros}
 use Rattle.machine.specs.declared.registers.Machine.{Machine}
@@ -67,11 +68,7 @@ unfoldable pub empty_machine : Machine
 empty_machine =
     record { slots = replicate 16 Empty; masks_at = 0; channels_at = 0; dealer_at = 0 }
 
--- "each sub-share is in range"
-abbrev pub shares_below : ℕ → Sharing → Bool
-shares_below m x = ltb x.s0 m && (ltb x.s1 m && ltb x.s2 m)
-
--- "each bits register has 1 to 59 bits"
+-- "each sub-share is in range, each bits register has 1 to 59 bits"
 unfoldable pub sound_register : Register → Bool
 sound_register Empty = true
 sound_register (Number r x) = shares_below (modulus_of r) x

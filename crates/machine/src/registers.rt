@@ -1,6 +1,6 @@
 // Registers and the machine record, by value.
 ghost use Rattle.std.specs.Prelude.{◌≡◌, ◌+◌, ◌<◌, ◌^◌};
-ghost use Rattle.machine.specs.Registers.{empty_machine, register_at, sound, shares_below, sound_register, with_register};
+ghost use Rattle.machine.specs.Registers.{empty_machine, register_at, sound, sound_register, with_register};
 ghost use Rattle.machine.specs.Step.{moved};
 
 use gate::Sharing;
@@ -40,7 +40,7 @@ impl Register {
     {
         match self {
             Register::Empty => true,
-            Register::Number(r, x) => in_range(r.modulus(), x),
+            Register::Number(r, x) => x.is_below(r.modulus()),
             Register::Bits(l, x) => bits_sound(l, x),
         }
     }
@@ -108,14 +108,6 @@ impl Machine {
     }
 }
 
-// Each sub-share below m. By place: three tests by `map` would need a test of the three results besides. timing, which stands below
-// machine, has one of its own.
-fn in_range(m: u64, x: Sharing) -> bool
-    ensures { result ≡ shares_below m x }
-{
-    (x.s0 < m) & ((x.s1 < m) & (x.s2 < m))
-}
-
 // 1 to 59 bits, each word below 2^l.
 fn bits_sound(l: u64, x: Sharing) -> bool
     ensures { result ≡ sound_register (Register.Bits l x) }
@@ -123,5 +115,5 @@ fn bits_sound(l: u64, x: Sharing) -> bool
     if MOST_BITS < l {
         return false;
     }
-    (1 <= l) & in_range(1 << l, x)
+    (1 <= l) & x.is_below(1 << l)
 }

@@ -5,11 +5,11 @@ use mathlib.Core.List.{List, [], ◌∷◌, map}
 use mathlib.Core.Path.{◌≡◌, ap, refl, sym, ◌∙◌}
 use lib.ListN.{length, set}
 use lib.Seq.{get_or-set_other, get_or-set_same}
-use borrow.Author.Tests.{le-leb, leb-true, lt-ltb, ltb-true}
+use borrow.Author.Tests.{le-leb, leb-true, lt-ltb}
 use Rattle.ring.specs.Rings.{modulus_of}
-use Rattle.gate.specs.Places.{Below, Place, p0, p1, p2, parts, sharing, total}
+use Rattle.gate.specs.Places.{Below, Place, p0, p1, p2, parts, shares_below, sharing, total}
 use Rattle.gate.specs.declared.sharing.Sharing.{Sharing}
-use Rattle.gate.proofs.PlaceLaw.{each, parts-sharing}
+use Rattle.gate.proofs.PlaceLaw.{each, in_range, parts-sharing}
 use Rattle.circuit.specs.Bits.{exclusive}
 use Rattle.machine.specs.Registers.{
   Kind,
@@ -22,7 +22,6 @@ use Rattle.machine.specs.Registers.{
   public_of,
   register_at,
   register_of,
-  shares_below,
   shares_of,
   sound,
   sound_register,
@@ -90,9 +89,7 @@ both {a} {b} h = (and-eq-true_iff a b).0 h
 
 shares_below_lem : (n : ℕ) (x : Sharing) → shares_below n x ≡ true → Below n (parts x)
 shares_below_lem n x h =
-    let first = both h in
-    let rest = both first.1 in
-    each (λ i. parts x i < n) (ltb-true _ _ first.0) (ltb-true _ _ rest.0) (ltb-true _ _ rest.1)
+    let range = in_range h in each (λ i. parts x i < n) range.zero range.one range.two
 
 below_shares : (n : ℕ) (z : Place → ℕ) → Below n z → shares_below n (sharing z) ≡ true
 below_shares n z h = rw (lt-ltb (z p0) n (h p0), lt-ltb (z p1) n (h p1), lt-ltb (z p2) n (h p2))

@@ -9,19 +9,16 @@ ghost use Rattle.session.specs.Records.{RecordFits, machine_in};
 
 use crate::replies::Reply;
 use crate::tapes::TapeLines;
-use layout::{CHANNELS_AT, MASKS_AT};
+use layout::{CHANNELS_AT, MASKS_AT, RECORD_WORDS};
 use machine::Order;
 use order::{refusal, value};
 use std::marker::Model;
 use step::step_words;
 
-// How many words a record has.
-const WORDS: usize = 83;
-
 // The record in words, seen as the record that they say.
 #[derive(Drop)]
 pub struct SoundRecord {
-    words: [u64; WORDS],
+    words: [u64; RECORD_WORDS],
 }
 
 impl Model for SoundRecord {
@@ -41,11 +38,11 @@ impl SoundRecord {
     pub fn empty() -> SoundRecord
         ensures { result ≡ empty_machine }
     {
-        SoundRecord { words: [0; WORDS] }
+        SoundRecord { words: [0; RECORD_WORDS] }
     }
 
     // The record that words say, a sound one: a job can be taken up at any.
-    pub fn of(words: [u64; WORDS]) -> SoundRecord
+    pub fn of(words: [u64; RECORD_WORDS]) -> SoundRecord
         requires { RecordFits words }
         ensures { result ≡ machine_in words }
     {

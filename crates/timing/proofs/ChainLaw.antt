@@ -12,11 +12,11 @@ use borrow.Rule.Slice.PartMut.{mid_of, mid_len, put_mid, set_mid_at}
 use lib.ListN.{length, length-append, length-map, set}
 use lib.Seq.{drop-cons, set_at}
 use Rattle.gate.specs.declared.sharing.Sharing.{Sharing}
-use Rattle.gate.specs.Places.{InRange, Place, Sent, p0, p1, p2, parts, three}
+use Rattle.gate.specs.Places.{Place, Sent, p0, p1, p2, parts, shares_below, three}
 use Rattle.gate.proofs.PlaceLaw.{each}
 use Rattle.ring.specs.declared.rings.Ring.{Ring}
 use Rattle.ring.specs.Rings.{modulus_of, ring_of}
-use Rattle.timing.specs.Chains.{Ran, chain, gate_of, gates, in_range, shaped, started, triple_at, written}
+use Rattle.timing.specs.Chains.{Ran, chain, gate_of, gates, shaped, started, triple_at, written}
 
 -- the channel with one word more, stored at the head of its part from gate i on
 word_more : (f : Sharing → ℕ) (zs : List Sharing) (z : Sharing) {i : ℕ} (c d e : List ℕ)
@@ -51,17 +51,6 @@ pub record Reached (p : ℕ) (x y : Sharing) (items : List ℕ) (c : Place → L
   pub whole : chain p y items (length (c p0)) 0 x ≡ done ++ chain p y items (length (c p0) - i) i z
   pub ran : Ran done i c d
 
--- what a test of the code says of the definition's
-pub test_of : {p q : ℕ} (s : Sharing) {found told : Bool} → q ≡ p → found ≡ in_range q s → found ≡ told → in_range p s ≡ told
-test_of s hp is said = cc
-
-pub range_of : {p : ℕ} {s : Sharing} → in_range p s ≡ true → InRange p s
-unfolding in_range
-range_of {p} {s} h =
-    let halves = (and-eq-true_iff _ _).0 h in
-    let first = (and-eq-true_iff _ _).0 halves.0 in
-    record { zero = ltb-true _ _ first.0; one = ltb-true _ _ first.1; two = ltb-true _ _ halves.1 }
-
 module _ (p : ℕ) (x y : Sharing) (items : List ℕ) (c : Place → List ℕ) where
   pub at-start : Reached p x y items c 0 x c
   unfolding written
@@ -79,17 +68,17 @@ module _ (p : ℕ) (x y : Sharing) (items : List ℕ) (c : Place → List ℕ) w
         let ran = ended (rw none) in
         record { answers = all ∙ ran.answers; channels = ran.channels }
 
-    pub stopped : {t : Sharing} → i < length (c p0) → t ≡ triple_at items (3 * i) → in_range p t ≡ false
+    pub stopped : {t : Sharing} → i < length (c p0) → t ≡ triple_at items (3 * i) → shares_below p t ≡ false
         → Ran (chain p y items (length (c p0)) 0 x) i c d
     unfolding chain
     stopped h read out =
         let split : length (c p0) - i ≡ suc (length (c p0) - (i + 1)) = omega arith in
-        ended (rw (split, ap (in_range p) (sym read) ∙ out))
+        ended (rw (split, ap (shares_below p) (sym read) ∙ out))
 
     pub went_on : {t z' : Sharing} {e₀ e₁ e₂ : List ℕ}
         → i < length (c p0) → length (c p1) ≡ length (c p0) → length (c p2) ≡ length (c p0)
         → length (d p0) ≡ length (c p0) → length (d p1) ≡ length (c p1) → length (d p2) ≡ length (c p2)
-        → t ≡ triple_at items (3 * i) → in_range p t ≡ true → z' ≡ gate_of p z y t
+        → t ≡ triple_at items (3 * i) → shares_below p t ≡ true → z' ≡ gate_of p z y t
         → Sent z' (mid_of i (length (d p0) - i) (d p0)) (mid_of i (length (d p1) - i) (d p1)) (mid_of i (length (d p2) - i) (d p2)) e₀ e₁ e₂
         → Reached p x y items c (i + 1) z' (stored i d (three e₀ e₁ e₂))
     unfolding chain
@@ -98,7 +87,7 @@ module _ (p : ℕ) (x y : Sharing) (items : List ℕ) (c : Place → List ℕ) w
         let count : i + 1 ≡ length (r.done ++ (z' ∷ [])) = rw length-append (omega (arith, r.ran.answers)) in
         record {
           done = r.done ++ (z' ∷ []);
-          whole = r.whole ∙ rw (split, ap (in_range p) (sym read) ∙ fits, append_assoc, is ∙ ap (gate_of p z y) read, add-one i);
+          whole = r.whole ∙ rw (split, ap (shares_below p) (sym read) ∙ fits, append_assoc, is ∙ ap (gate_of p z y) read, add-one i);
           ran = record {
             answers = count;
             channels = each (λ k. stored i d (three e₀ e₁ e₂) k ≡ written (λ z. parts z k) (r.done ++ (z' ∷ [])) (c k))
@@ -114,7 +103,7 @@ unfolding written
 nothing c = record { answers = refl; channels = λ k. refl }
 
 pub started_as : {p q : ℕ} {a b told : Bool} (x y : Sharing) (items : List ℕ) (n : ℕ)
-    → q ≡ p → a ≡ in_range q x → b ≡ in_range q y → a && b ≡ told
+    → q ≡ p → a ≡ shares_below q x → b ≡ shares_below q y → a && b ≡ told
     → started p x y items n ≡ cond told (chain p y items n 0 x) []
 unfolding started
 started_as x y items n hp ha hb test = rw (← hp, ← ha, ← hb, test)

@@ -1,20 +1,16 @@
 -- What timing_gate answers and leaves.
 -- Used by the code's contracts alone: no theorem's statement speaks of it.
-use Rattle.std.specs.Prelude.{ℕ, zero, suc, ◌+◌, ◌*◌, ◌/◌, ◌≤◌, Bool, ◌&&◌, cond, List, [], ◌++◌, ◌∷◌, map, ◌≡◌, eqb, leb, ltb, drop, get_or, length, Some, None, Option}
+use Rattle.std.specs.Prelude.{ℕ, zero, suc, ◌+◌, ◌*◌, ◌/◌, ◌≤◌, Bool, ◌&&◌, cond, List, [], ◌++◌, ◌∷◌, map, ◌≡◌, eqb, leb, drop, get_or, length, Some, None, Option}
 use Rattle.ring.specs.declared.rings.Ring.{Ring}
 use Rattle.ring.specs.Rings.{modulus_of, ring_of}
 use Rattle.gate.specs.declared.sharing.Sharing.{Sharing}
 use Rattle.gate.specs.Gates.{gated}
-use Rattle.gate.specs.Places.{Place, p0, p1, p2, parts, sharing}
+use Rattle.gate.specs.Places.{Place, p0, p1, p2, parts, shares_below, sharing}
 use Rattle.timing.specs.Products.{alike}
 
 -- three words, from an index on
 abbrev pub triple_at : List ℕ → ℕ → Sharing
 triple_at ws at = record { s0 = get_or ws at 0; s1 = get_or ws (at + 1) 0; s2 = get_or ws (at + 2) 0 }
-
--- each of the three is below p
-unfoldable pub in_range : ℕ → Sharing → Bool
-in_range p s = ltb s.s0 p && ltb s.s1 p && ltb s.s2 p
 
 -- the sharing that a gate makes
 abbrev pub gate_of : ℕ → Sharing → Sharing → Sharing → Sharing
@@ -25,13 +21,13 @@ unfoldable pub chain : ℕ → Sharing → List ℕ → ℕ → ℕ → Sharing 
 chain p y items zero k z = []
 chain p y items (suc n) k z =
     cond
-    (in_range p (triple_at items (3 * k)))
+    (shares_below p (triple_at items (3 * k)))
     (gate_of p z y (triple_at items (3 * k)) ∷ chain p y items n (suc k) (gate_of p z y (triple_at items (3 * k))))
     []
 
 -- the chain from x, or no gate where x or y is out of range
 unfoldable pub started : ℕ → Sharing → Sharing → List ℕ → ℕ → List Sharing
-started p x y items n = cond (in_range p x && in_range p y) (chain p y items n 0 x) []
+started p x y items n = cond (shares_below p x && shares_below p y) (chain p y items n 0 x) []
 
 -- three words of x and of y, as much room in each channel as gates, three items a gate
 unfoldable pub shaped : ℕ → ℕ → ℕ → ℕ → ℕ → ℕ → Bool

@@ -4,7 +4,7 @@ ghost use Rattle.gate.specs.Lent.{at_entry_mut, at_exit};
 ghost use Rattle.gate.specs.Places.{InRange};
 ghost use Rattle.ring.specs.Lent.{Stands};
 ghost use Rattle.ring.specs.Rings.{Sized, modulus_of};
-ghost use Rattle.timing.specs.Chains.{Ran, Shape, chain, gates, in_range, shaped, started, triple_at};
+ghost use Rattle.timing.specs.Chains.{Ran, Shape, chain, gates, shaped, started, triple_at};
 
 use crate::products::same_lengths;
 use gate::{Sharing, ring_words, send};
@@ -20,14 +20,6 @@ fn triple(ws: &[u64], at: usize) -> Sharing
         s1: ws[at + 1],
         s2: ws[at + 2],
     }
-}
-
-// Whether each word of s is below p. machine has this test of its own: what bench times stands on ring and gate, and on no machine.
-#[tactic(auto, unfolding(crate::specs::Chains::in_range))]
-fn in_range(p: u64, s: Sharing) -> bool
-    ensures { result ≡ in_range p s }
-{
-    (s.s0 < p) & (s.s1 < p) & (s.s2 < p)
 }
 
 // Whether the lengths fit: three words of x and of y, three items a gate. No one comparison: each length has its own measure.
@@ -59,7 +51,7 @@ fn run_chain(
     let n = c0.len();
     for i in 0..n {
         let t = triple(items, 3 * i);
-        if !in_range(p, t) {
+        if !t.is_below(p) {
             return i;
         }
         z = ring_words(e, p, z, y, t);
@@ -83,7 +75,7 @@ fn start_chain(
 {
     let e = r.width();
     let p = r.modulus();
-    if in_range(p, x) & in_range(p, y) {
+    if x.is_below(p) & y.is_below(p) {
         return run_chain(e, p, x, y, items, c0, c1, c2);
     }
     0

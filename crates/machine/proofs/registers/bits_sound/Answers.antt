@@ -18,4 +18,4 @@ returns-then-l-gt-MOST_BITS c = rw (lt-leb c.args.l 59 c.if-l-gt-MOST_BITS.true)
 
 pub returns : goal.returns
 unfolding sound_register
-returns c = rw (c.in_range.ensures, le-leb c.args.l 59 c.if-l-gt-MOST_BITS.false, shifted_one c.args.l (omega arith))
+returns c = rw (c.is_below.ensures, le-leb c.args.l 59 c.if-l-gt-MOST_BITS.false, shifted_one c.args.l (omega arith))

@@ -1,28 +1,29 @@
 -- Invariant: gate i is reached.
 use Prim.Native.Nat.{◌-◌}
-use mathlib.Core.Path.{◌∙◌, refl}
+use mathlib.Core.Path.{◌∙◌, refl, sym}
 use native.Mathlib.Omega.{arith}
 use borrow.Rule.Slice.PartMut.{mid_len, same_len_mid}
 use lib.ListN.{length}
-use Rattle.timing.proofs.ChainLaw.{at-start, full, range_of, stopped, test_of, went_on}
+use Rattle.gate.proofs.PlaceLaw.{in_range}
+use Rattle.timing.proofs.ChainLaw.{at-start, full, stopped, went_on}
 use Rattle.timing.proofs.chains.run_chain.Goals as goal
 
 pub loop-i-init : goal.loop-i-init
 loop-i-init c = (refl, refl, refl, c.requires.left, at-start _ _ _ _ _)
 
 -- an item out of range ends the chain
-pub returns-then-not-in_range : goal.returns-then-not-in_range
-returns-then-not-in_range c =
+pub returns-then-not-is_below : goal.returns-then-not-is_below
+returns-then-not-is_below c =
     stopped _ _ _ _ _ c.loop-i.invariant.4 (omega arith) c.triple-t.ensures
-    (test_of _ refl c.in_range.ensures (c.if-not-in_range.true))
+    (sym c.is_below.ensures ∙ c.if-not-is_below.true)
 
 pub ring_words-z-requires : goal.ring_words-z-requires
 ring_words-z-requires c =
-    let fits = test_of _ refl c.in_range.ensures (c.if-not-in_range.false) in record {
+    let fits = sym c.is_below.ensures ∙ c.if-not-is_below.false in record {
       sized = c.requires.sized;
       left = c.loop-i.invariant.3;
       right = c.requires.right;
-      items = range_of fits;
+      items = in_range fits;
     }
 
 pub send-requires : goal.send-requires
@@ -43,7 +44,7 @@ loop-i-preserved c =
       went_on _ _ _ _ _ inv.4 (omega (arith, c.loop-i-test.true, inv.0)) c.requires.lengths.one c.requires.lengths.two
           inv.0 inv.1 inv.2
           c.triple-t.ensures
-          (test_of _ refl c.in_range.ensures (c.if-not-in_range.false))
+          (sym c.is_below.ensures ∙ c.if-not-is_below.false)
           c.ring_words-z.ensures.is
           c.send.ensures,
     )
