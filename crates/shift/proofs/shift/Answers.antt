@@ -7,9 +7,6 @@ use Rattle.circuit.proofs.LoanLaw.{items_later, room_later, room_less, sends_cou
 use Rattle.shift.proofs.ShiftLaw.{shifted}
 use Rattle.shift.proofs.shift.Goals as goal
 
-pub decompose-w-requires-clause-supplied : goal.decompose-w-requires-clause-supplied
-decompose-w-requires-clause-supplied c = rw c.width-l.ensures (record { room = room_less _ (omega arith) c.requires.room; items = c.requires.first })
-
 pub compose_bits-requires-clause-supplied : goal.compose_bits-requires-clause-supplied
 compose_bits-requires-clause-supplied c =
     let done = rw c.width-l.ensures at c.decompose-w.ensures.left in

@@ -19,17 +19,6 @@ takes : {s : Sources} (o : Order) {r w : Way} → ((m : Machine) → s ≡ sourc
     → (m : Machine) → s ≡ sources_in m o → Takes o m w
 takes o told e m is = rw e at (told m is)
 
-pub attempt-requires : goal.attempt-requires
-attempt-requires c =
-    let m = c.requires.0 in
-    (m, (takes c.args.o c.way_of.ensures c.in-Attempt.is m (sources_found m c.args.o c.requires.1)).ready)
-
-pub open-requires : goal.open-requires
-open-requires c =
-    let m = c.requires.0 in
-    let is = sources_found m c.args.o c.requires.1 in
-    (m, is ∙ ap (sources_in m) (takes c.args.o c.way_of.ensures c.in-Open.is m is))
-
 pub returns-in-Deal : goal.returns-in-Deal
 returns-in-Deal c = λ m is.
     let a = c.args in

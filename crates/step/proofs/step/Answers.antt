@@ -5,17 +5,6 @@ use Rattle.gate.specs.Places.{Place, three}
 use Rattle.step.proofs.StepLaw.{answered, found_is}
 use Rattle.step.proofs.step.Goals as goal
 
-pub decide-requires : goal.decide-requires
-decide-requires c =
-    let a = c.args in
-    (a.m, found_is a.m a.o c.is_sound.ensures c.source.ensures c.register.ensures c.other.ensures c.register-2.ensures)
-
-pub apply-requires : goal.apply-requires
-apply-requires c =
-    let a = c.args in
-    let found = found_is a.m a.o c.is_sound.ensures c.source.ensures c.register.ensures c.other.ensures c.register-2.ensures in
-    (c.decide.ensures a.m found).fits
-
 pub returns : goal.returns
 returns c =
     let a = c.args in

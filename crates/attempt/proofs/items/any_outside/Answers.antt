@@ -17,7 +17,3 @@ pub returns : goal.returns
 returns c =
     let a = c.args in
     high_end 63 a.p a.n c.loop-k.k c.loop-k.all a.m0.now a.m1.now a.m2.now c.loop-k.invariant.1 (omega arith)
-
-pub loop-k-init : goal.loop-k-init
-loop-k-init c =
-    (omega arith, rw sub-zero)

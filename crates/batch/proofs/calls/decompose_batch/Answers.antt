@@ -35,11 +35,6 @@ returns-in_err-r c =
       lent = (refl, refl, refl, refl, refl, refl);
     }
 
-pub in_ring-requires : goal.in_ring-requires
-in_ring-requires c =
-    let both = neither _ _ c.if-not_count.false in
-    record { lengths = counts _ _ _ c.not_count.ensures both.0; results = counts _ _ _ c.not_count-2.ensures both.1 }
-
 pub returns : goal.returns
 returns c =
     let a = c.args in

@@ -8,7 +8,3 @@ use Rattle.compose.proofs.bits.next_power.Goals as goal
 pub returns-then-j-e : goal.returns-then-j-e
 returns-then-j-e c =
     record { is = rw c.if-j-e.true (whole_rotation c.args.e); below = omega arith }
-
-pub returns : goal.returns
-returns c =
-    record { is = cong_refl (2 ^ (c.args.j + 1)); below = omega arith }

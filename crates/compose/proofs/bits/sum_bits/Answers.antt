@@ -24,9 +24,3 @@ loop-k-preserved c =
           c.join_bit-b.ensures.is c.add_weighted-sum.ensures.is,
       c.next_power-power.ensures.below,
     )
-
-pub returns : goal.returns
-returns c =
-    let all : c.loop-k.k ≡ c.args.count = omega arith in
-    rw (← c.modulus-p.ensures)
-    record { is = rw all at (all-summed c.loop-k.invariant.0 c.reduce_sums.ensures.is); below = c.reduce_sums.ensures.below }

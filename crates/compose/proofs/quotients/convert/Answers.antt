@@ -4,9 +4,6 @@ use Rattle.circuit.proofs.LoanLaw.{items_later, room_later, room_less, sends_the
 use Rattle.compose.proofs.QuotientLaw.{converted}
 use Rattle.compose.proofs.quotients.convert.Goals as goal
 
-pub quotient-q-requires : goal.quotient-q-requires
-quotient-q-requires c = record { room = room_less 1 (omega arith) c.requires.room; items = c.requires.first }
-
 pub compose_bits-s-requires-clause-supplied : goal.compose_bits-s-requires-clause-supplied
 compose_bits-s-requires-clause-supplied c =
     let done = c.quotient-q.ensures in

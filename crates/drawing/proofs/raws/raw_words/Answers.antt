@@ -15,8 +15,3 @@ pub loop-i-preserved : goal.loop-i-preserved
 loop-i-preserved c =
     let more : c.loop-i.i < length c.args.raw.now / 8 = omega (arith, c.loop-i-test.true, c.as_chunks.ensures.front_len) in
     one_word c.loop-i.invariant more c.requires (word_is _ _ _ _ _ c.as_chunks.ensures.front more c.from_le_bytes.ensures)
-
-pub returns : goal.returns
-returns c =
-    let all : c.loop-i.i ≡ length c.as_chunks.result.0.now = omega (arith, c.loop-i-test.false, c.loop-i.auto.i-end) in
-    record { count = c.as_chunks.ensures.front_len; words = rw all at c.loop-i.invariant.same }

@@ -10,14 +10,6 @@ returns c = record {
   below = c.mul_add_mod.ensures.below;
 }
 
-pub add_mod-sum-requires : goal.add_mod-sum-requires
-add_mod-sum-requires c =
-    omega (arith, c.requires.sized)
-
 pub mask_word-requires : goal.mask_word-requires
 mask_word-requires c =
     record { room = omega (arith, sized_lt c.requires.sized); items = c.requires.items }
-
-pub mul_add_mod-requires : goal.mul_add_mod-requires
-mul_add_mod-requires c =
-    record { sized = c.requires.sized; left = omega arith; right = omega arith; sum = omega arith }

@@ -28,10 +28,6 @@ pub overflow_mul-x-2 : goal.overflow_mul-x-2
 overflow_mul-x-2 c =
     omega (arith, one (c.before.before), sized_lt c.requires.sized)
 
-pub masked-s1-requires : goal.masked-s1-requires
-masked-s1-requires c =
-    omega (arith, one (c.before.before), sized_gt c.requires.sized)
-
 pub returns : goal.returns
 returns c =
     let whole = words_by_bit _ _ _ _ (c.mask_alone-s0.ensures.is, c.mask_alone-s0.ensures.below) (c.masked-s1.ensures.is, c.masked-s1.ensures.below) (c.masked-s2.ensures.is, c.masked-s2.ensures.below) in record {

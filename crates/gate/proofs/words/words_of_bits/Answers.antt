@@ -4,14 +4,6 @@ use Rattle.ring.proofs.RangeLaw.{sized_gt}
 use Rattle.gate.proofs.WordLaw.{bit_times_lt, words_of_bits}
 use Rattle.gate.proofs.words.words_of_bits.Goals as goal
 
-pub overflow_mul-b0 : goal.overflow_mul-b0
-overflow_mul-b0 c =
-    omega (arith, bit_times_lt c.requires.left c.requires.right)
-
-pub masked-requires : goal.masked-requires
-masked-requires c =
-    omega (arith, c.requires.sized, bit_times_lt c.requires.left c.requires.right, sized_gt c.requires.sized)
-
 pub returns : goal.returns
 returns c =
     let whole = words_of_bits _ _ _ _ (c.masked.ensures.is, c.masked.ensures.below) (c.mask_alone.ensures.is, c.mask_alone.ensures.below) (c.mask_alone-2.ensures.is, c.mask_alone-2.ensures.below) in record {

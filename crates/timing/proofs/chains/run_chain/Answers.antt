@@ -26,13 +26,6 @@ ring_words-z-requires c =
       items = in_range fits;
     }
 
-pub send-requires : goal.send-requires
-send-requires c =
-    let room₀ = mid_len c.loop-i.i (length c.loop-i.c0) c.loop-i.c0 (omega arith) in
-    let room₁ = mid_len c.loop-i.i (length c.loop-i.c1) c.loop-i.c1 (omega arith) in
-    let room₂ = mid_len c.loop-i.i (length c.loop-i.c2) c.loop-i.c2 (omega arith) in
-    record { zero = omega arith; one = omega arith; two = omega arith }
-
 pub loop-i-preserved : goal.loop-i-preserved
 loop-i-preserved c =
     let inv = c.loop-i.invariant in
