@@ -56,5 +56,10 @@ pub fn figures_why(
     if any_outside(p, COUNT as u64, a0, a1, a2) {
         return Err(Refusal::BadItem);
     }
-    room(Positions::default(), 3 * l + 1, len)
+    let start = Positions {
+        masks: 0,
+        channels: 0,
+        dealer: 0,
+    };
+    room(start, 3 * l + 1, len)
 }

@@ -11,7 +11,7 @@ pub struct Sources {
 }
 
 // From where on the tapes and channels are used.
-#[derive(Clone, Copy, Default)]
+#[derive(Clone, Copy)]
 pub struct Positions {
     pub masks: u64,
     pub channels: u64,
