@@ -81,22 +81,6 @@ module _ {S : Type 0} where
             (ap (λ q. words ++ sent H q (drops (length G) T) i) (sym a.states) ∙ sym (sent-append G H s T i));
       }
 
-  -- on three runs, n being the first's words
-  pub ran-three : {G H : List (Gate S)} {s r r' : Place → S} {c : Place → List ℕ} {n : ℕ} {t₀ t₁ t₂ d₀ d₁ d₂ e₀ e₁ e₂ : List ℕ}
-      → length G ≡ n
-      → Ran G s (three t₀ t₁ t₂) c r (three d₀ d₁ d₂)
-      → Ran H r (parts_from n t₀ t₁ t₂) (parts_from n d₀ d₁ d₂) r' (three e₀ e₁ e₂)
-      → Ran (G ++ H) s (three t₀ t₁ t₂) c r' (put_back n d₀ d₁ d₂ e₀ e₁ e₂)
-  ran-three {G} {H} {s} {r} {r'} {c} {n} {t₀} {t₁} {t₂} {d₀} {d₁} {d₂} {e₀} {e₁} {e₂} counted a b =
-      let k : ℕ = length G in
-      let D : Place → List ℕ = three d₀ d₁ d₂ in
-      let E : Place → List ℕ = three e₀ e₁ e₂ in
-      let lent : Ran H r (drops k (three t₀ t₁ t₂)) (λ i. part_from k (D i)) r' E
-      = rw (drops-three k t₀ t₁ t₂, by_place (part_from k) d₀ d₁ d₂) at (rw (← counted) at b) in
-      let whole : (λ i. put_part k (D i) (E i)) ≡ put_back k d₀ d₁ d₂ e₀ e₁ e₂
-      = fun_ext (each (λ i. put_part k (D i) (E i) ≡ put_back k d₀ d₁ d₂ e₀ e₁ e₂ i) refl refl refl) in
-      rw (← counted, ← whole) (ran_on a lent)
-
   -- one gate that writes its words to the heads of what it is lent
   pub ran-gate : (g : Gate S) (s : Place → S) (T c : Place → List ℕ) (z : Place → ℕ) {d : Place → List ℕ}
       → words g s (heads T) ≡ z
@@ -131,13 +115,6 @@ pub record AsLong (c₀ c₁ c₂ d₀ d₁ d₂ : List ℕ) : Type 0 where
   pub zero : length d₀ ≡ length c₀
   pub one : length d₁ ≡ length c₁
   pub two : length d₂ ≡ length c₂
-
-pub long_same : {n : ℕ} {c₀ c₁ c₂ d₀ d₁ d₂ : List ℕ} → AsLong c₀ c₁ c₂ d₀ d₁ d₂ → Long n c₀ c₁ c₂ → Long n d₀ d₁ d₂
-long_same same h = record { zero = omega arith; one = omega arith; two = omega arith }
-
--- what holds of n words holds of fewer
-pub long_less : {k n : ℕ} {t₀ t₁ t₂ : List ℕ} → k ≤ n → Long n t₀ t₁ t₂ → Long k t₀ t₁ t₂
-long_less fewer h = record { zero = omega arith; one = omega arith; two = omega arith }
 
 -- what is long enough, and in range, for k + n words is so from k on for n
 part_long : (n k : ℕ) (t : List ℕ) → k + n ≤ length t → n ≤ length (part_from k t)

@@ -58,12 +58,6 @@ module _ (a : Register) (sound : sound_register a ≡ true) where
         shares_below_lem (2 ^ l) x (right_true (leb l 59) (shares_below (2 ^ l) x) rest),
       )
 
--- a number is of its ring
-pub number_kind_lem : (k : Kind) → is_number k ≡ true → k ≡ number (ring_at k)
-number_kind_lem empty h = cc
-number_kind_lem (number r) h = refl
-number_kind_lem (bits l) h = cc
-
 -- the total of a number
 pub number_value : {a : Register} (r : Ring) (x : Sharing) {v : ℕ} → a ≡ Number r x → v ≡ (x.s0 + x.s1 + x.s2) % modulus_of r → v ≡ value_of a
 unfolding total

@@ -57,9 +57,3 @@ module _ {v u : Standing} {got : Answered} {buf : List ℕ} {turns : ℕ} (g : G
 
   pub onward : 0 < length buf → goes_on got u.lines ≡ true → Reading u got buf (turns + 1)
   onward room goes = later g.chunks v g.reads after room goes (omega (arith, g.bytes))
-
--- the turns are used up
-pub used_up : {v : Standing} {got : Answered} {buf : List ℕ} {turns : ℕ} → Reading v got buf turns → most ≤ turns → Reached v got buf
-used_up (first e none_yet) h = absurd (omega (arith, none_yet))
-used_up (later cs w reads after room goes bytes) h =
-    record { chunks = cs; before = w; reads = reads; after = after; ended = inr (omega (arith, bytes)) }
