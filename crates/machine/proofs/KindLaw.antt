@@ -9,7 +9,7 @@ use Rattle.ring.specs.declared.rings.Ring.{Ring}
 use Rattle.gate.specs.Places.{InRange, total}
 use Rattle.gate.specs.declared.sharing.Sharing.{Sharing}
 use Rattle.machine.specs.Checks.{is_number}
-use Rattle.machine.specs.Registers.{Kind, bits, empty, number, ring_at, shares_below, sound_register}
+use Rattle.machine.specs.Registers.{Kind, bits, empty, number, shares_below, sound_register}
 use Rattle.machine.specs.Step.{value_of}
 use Rattle.machine.specs.declared.registers.Register.{Register}
 use Rattle.machine.specs.declared.registers.Register.TheVariants.{Bits, Number}

@@ -10,10 +10,6 @@ use Rattle.std.specs.Prelude.{Err, Ok}
 use Rattle.session.specs.Standings.{Standing, after_bytes, begun}
 use Rattle.survey.specs.Chunks.{Answered, Chunks, Reached, bytes_read, goes_on, next, none}
 
--- u64::MAX turns, that no run uses up
-abbrev most : ℕ
-most = 18446744073709551615
-
 -- between two turns: no chunk was read yet, or the last one has another behind it, and each so far took a byte
 pub data Reading (v : Standing) (got : Answered) (buf : List ℕ) (turns : ℕ) : Type 0 where
   first : v ≡ begun → turns ≡ 0 → Reading v got buf turns
