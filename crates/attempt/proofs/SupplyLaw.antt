@@ -66,10 +66,3 @@ items_whole {m} {k} {n} {v} start items =
             two = rw get_or-drop at (items.two j h);
           });
     }
-
--- what a circuit leaves on runs that are lent whole
-pub left_whole : {n : ℕ} {C : Circuit} {x y : Place → ℕ} {z : Sharing} {v w : Lent} {d₀ d₁ d₂ : List ℕ} → v.at ≡ 0
-    → Sends n (circuit_left C x y z) v w
-    → w.c0.now ≡ d₀ → w.c1.now ≡ d₁ → w.c2.now ≡ d₂
-    → Left C x y (tapes v) (channels v) z (three d₀ d₁ d₂)
-left_whole start sends e₀ e₁ e₂ = rw (← e₀, ← e₁, ← e₂) (rw start at sends.ahead)

@@ -32,70 +32,10 @@ put_back k d₀ d₁ d₂ e₀ e₁ e₂ = three (put_part k d₀ e₀) (put_par
 pub part_is : (k : ℕ) (l : List ℕ) → part_from k l ≡ drop k l
 part_is k l = take_all (length l - k) (drop k l) (rw (length-drop k l) (le_refl (length l - k)))
 
--- words w stand before the rest of u; the part from there on gets words q before its rest; so the whole has both
-lent_on : (k : ℕ) (u w q d ys : List ℕ) → length w ≡ k → d ≡ w ++ drop k u → ys ≡ q ++ drop (length q) (part_from k d)
-    → put_part k d ys ≡ (w ++ q) ++ drop (k + length q) u
-lent_on k u w q d ys hw hd hy =
-    let rest : drop k d ≡ drop k u = ap (drop k) hd ∙ drop_at w (drop k u) k hw in
-    let front : take k d ≡ w = ap (take k) hd ∙ take_at w (drop k u) k hw in
-    let part : ys ≡ q ++ drop (k + length q) u
-    = hy ∙ ap (λ (l : List ℕ). q ++ drop (length q) l) (part_is k d ∙ rest) ∙ ap (λ (l : List ℕ). q ++ l) (drop-drop (length q) k u) in
-    let none : drop (length d - k) (drop k d) ≡ []
-    = drop_of_length-le (drop k d) {i = length d - k} (rw (length-drop k d) (le_refl (length d - k))) in
-    ap (λ (l : List ℕ). l ++ (ys ++ drop (length d - k) (drop k d))) front
-    ∙ ap (λ (l : List ℕ). w ++ (ys ++ l)) none
-    ∙ ap (λ (l : List ℕ). w ++ l) (append-nil ys ∙ part)
-    ∙ sym (append_assoc w q (drop (k + length q) u))
-
--- the tapes of a part
-pub drops-three : (k : ℕ) (t₀ t₁ t₂ : List ℕ) → parts_from k t₀ t₁ t₂ ≡ drops k (three t₀ t₁ t₂)
-drops-three k t₀ t₁ t₂ =
-    fun_ext (each (λ i. parts_from k t₀ t₁ t₂ i ≡ drops k (three t₀ t₁ t₂) i) (part_is k t₀) (part_is k t₁) (part_is k t₂))
-
--- three runs, worked by place
-by_place : (f : List ℕ → List ℕ) (d₀ d₁ d₂ : List ℕ) → three (f d₀) (f d₁) (f d₂) ≡ (λ i. f (three d₀ d₁ d₂ i))
-by_place f d₀ d₁ d₂ = fun_ext (each (λ i. three (f d₀) (f d₁) (f d₂) i ≡ f (three d₀ d₁ d₂ i)) refl refl refl)
-
 module _ {S : Type 0} where
   pub ran_none : (s : Place → S) (T c : Place → List ℕ) → Ran [] s T c s c
   unfolding ends sent
   ran_none s T c = record { states = refl; channels = λ i. refl }
-
-  -- two stretches, the second on the parts from the first's end on
-  pub ran_on : {G H : List (Gate S)} {s r r' : Place → S} {T c d p : Place → List ℕ}
-      → Ran G s T c r d
-      → Ran H r (drops (length G) T) (λ i. part_from (length G) (d i)) r' p
-      → Ran (G ++ H) s T c r' (λ i. put_part (length G) (d i) (p i))
-  ran_on {G} {H} {s} {r} {r'} {T} {c} {d} {p} a b =
-      record {
-        states = ends-append G H s T ∙ ap (λ q. ends H q (drops (length G) T)) a.states ∙ b.states;
-        channels = λ i.
-            let words : List ℕ = sent G s T i in
-            let more : List ℕ = sent H r (drops (length G) T) i in
-            let counted : length more ≡ length H = length-sent H r (drops (length G) T) i in
-            lent_on (length G) (c i) words more (d i) (p i) (length-sent G s T i) (a.channels i)
-            (b.channels i ∙ ap (λ (n : ℕ). more ++ drop n (part_from (length G) (d i))) (sym counted))
-            ∙ ap (λ (n : ℕ). (words ++ more) ++ drop (length G + n) (c i)) counted
-            ∙ ap (λ (n : ℕ). (words ++ more) ++ drop n (c i)) (sym (length-append G H))
-            ∙ ap (λ (l : List ℕ). l ++ drop (length (G ++ H)) (c i))
-            (ap (λ q. words ++ sent H q (drops (length G) T) i) (sym a.states) ∙ sym (sent-append G H s T i));
-      }
-
-  -- on three runs, n being the first's words
-  pub ran-three : {G H : List (Gate S)} {s r r' : Place → S} {c : Place → List ℕ} {n : ℕ} {t₀ t₁ t₂ d₀ d₁ d₂ e₀ e₁ e₂ : List ℕ}
-      → length G ≡ n
-      → Ran G s (three t₀ t₁ t₂) c r (three d₀ d₁ d₂)
-      → Ran H r (parts_from n t₀ t₁ t₂) (parts_from n d₀ d₁ d₂) r' (three e₀ e₁ e₂)
-      → Ran (G ++ H) s (three t₀ t₁ t₂) c r' (put_back n d₀ d₁ d₂ e₀ e₁ e₂)
-  ran-three {G} {H} {s} {r} {r'} {c} {n} {t₀} {t₁} {t₂} {d₀} {d₁} {d₂} {e₀} {e₁} {e₂} counted a b =
-      let k : ℕ = length G in
-      let D : Place → List ℕ = three d₀ d₁ d₂ in
-      let E : Place → List ℕ = three e₀ e₁ e₂ in
-      let lent : Ran H r (drops k (three t₀ t₁ t₂)) (λ i. part_from k (D i)) r' E
-      = rw (drops-three k t₀ t₁ t₂, by_place (part_from k) d₀ d₁ d₂) at (rw (← counted) at b) in
-      let whole : (λ i. put_part k (D i) (E i)) ≡ put_back k d₀ d₁ d₂ e₀ e₁ e₂
-      = fun_ext (each (λ i. put_part k (D i) (E i) ≡ put_back k d₀ d₁ d₂ e₀ e₁ e₂ i) refl refl refl) in
-      rw (← counted, ← whole) (ran_on a lent)
 
   -- one gate that writes its words to the heads of what it is lent
   pub ran-gate : (g : Gate S) (s : Place → S) (T c : Place → List ℕ) (z : Place → ℕ) {d : Place → List ℕ}
@@ -125,19 +65,6 @@ left_of {C} ran is =
 -- what one place's run has, each has
 pub rooms : {t₀ t₁ t₂ : List ℕ} → Long 1 t₀ t₁ t₂ → (i : Place) → 0 < length (three t₀ t₁ t₂ i)
 rooms {t₀} {t₁} {t₂} h = each (λ i. 0 < length (three t₀ t₁ t₂ i)) (omega arith) (omega arith) (omega arith)
-
--- three runs as long as others
-pub record AsLong (c₀ c₁ c₂ d₀ d₁ d₂ : List ℕ) : Type 0 where
-  pub zero : length d₀ ≡ length c₀
-  pub one : length d₁ ≡ length c₁
-  pub two : length d₂ ≡ length c₂
-
-pub long_same : {n : ℕ} {c₀ c₁ c₂ d₀ d₁ d₂ : List ℕ} → AsLong c₀ c₁ c₂ d₀ d₁ d₂ → Long n c₀ c₁ c₂ → Long n d₀ d₁ d₂
-long_same same h = record { zero = omega arith; one = omega arith; two = omega arith }
-
--- what holds of n words holds of fewer
-pub long_less : {k n : ℕ} {t₀ t₁ t₂ : List ℕ} → k ≤ n → Long n t₀ t₁ t₂ → Long k t₀ t₁ t₂
-long_less fewer h = record { zero = omega arith; one = omega arith; two = omega arith }
 
 -- what is long enough, and in range, for k + n words is so from k on for n
 part_long : (n k : ℕ) (t : List ℕ) → k + n ≤ length t → n ≤ length (part_from k t)

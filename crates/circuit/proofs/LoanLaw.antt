@@ -210,13 +210,6 @@ supplied_later {m} {all} n k less supplied sends =
       items = items_later n 0 refl (items_less m all (n + 0) k (omega arith) supplied.items) sends;
     }
 
-pub room_less : {n : ℕ} (k : ℕ) {v : Lent} → k ≤ n → Room n v → Room k v
-room_less k less room =
-    record {
-      masks = record { zero = omega arith; one = omega arith; two = omega arith };
-      channels = record { zero = omega arith; one = omega arith; two = omega arith };
-    }
-
 -- the next items are the heads of the tapes
 pub heads_next : (v : Lent) → heads (drops v.at (tapes v)) ≡ parts (items_next v)
 heads_next v =

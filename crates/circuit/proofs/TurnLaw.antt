@@ -13,11 +13,6 @@ use Rattle.circuit.specs.Lent.{Long, Ran, Turned}
 use Rattle.circuit.specs.Sharings.{items_at}
 use Rattle.circuit.proofs.LentLaw.{part_is, part_from, ran-gate, ran_none, rooms}
 
--- item k is the first of the part from k on
-pub items-next : (k : ℕ) (t₀ t₁ t₂ : List ℕ) → items_at 0 (part_from k t₀) (part_from k t₁) (part_from k t₂) ≡ items_at k t₀ t₁ t₂
-items-next k t₀ t₁ t₂ =
-    rw (part_is k t₀, part_is k t₁, part_is k t₂, get_or-drop k t₀ 0 0, get_or-drop k t₁ 0 0, get_or-drop k t₂ 0 0, add-zero)
-
 -- the words that a gate sends, by place
 pub stored : {z : Sharing} (x : Place → ℕ) (c d : Place → List ℕ)
     → z ≡ sharing x → Sent z (c p0) (c p1) (c p2) (d p0) (d p1) (d p2) → (i : Place) → d i ≡ set (c i) 0 (x i)

@@ -169,13 +169,3 @@ module _ {m from : ℕ} {w : Sharing} {u : Lent} {k j : ℕ} {sum : Sharing} {v 
             (λ i. weighed m j k (parts sum i) (parts b i) reached.weighs (total i)))
             kept));
       }
-
-  -- after the last, where the sums are reduced
-  pub all-summed : {z : Sharing} → ((i : Place) → parts z i ≡ parts sum i % m) → Sends (2 * k) (bits_summed m from k w z) u v
-  all-summed is =
-      let sums = reached.sums in
-      record {
-        ahead = record { sums = λ i. sums.ahead.sums i ∙ sym (is i); channels = sums.ahead.channels };
-        at = sums.at;
-        same = sums.same;
-      }

@@ -8,10 +8,6 @@ use lib.Pow.{pow_pos, shl_exact}
 use Rattle.ring.proofs.WordLaw.{shifted_one}
 use Rattle.decompose.specs.Words.{upper}
 
--- a bit stored above a word
-pub shifted_is : {b k : ℕ} → b < 2 → k < 64 → (b * 2 ^ k) % 2 ^ 64 ≡ b * 2 ^ k
-shifted_is {b} {k} hb hk = shl_exact 1 k 64 hb (omega arith)
-
 -- the low bits by the mask
 pub upper_is : (total raising : ℕ) {l : ℕ} → l < 64
     → bit_and (bit_xor (total / 4) raising) ((1 * 2 ^ l) % 2 ^ 64 - 1) ≡ upper total raising l

@@ -10,7 +10,7 @@ use Rattle.gate.specs.Places.{InRange, shares_below, total}
 use Rattle.gate.specs.declared.sharing.Sharing.{Sharing}
 use Rattle.gate.proofs.PlaceLaw.{in_range}
 use Rattle.machine.specs.Checks.{is_number}
-use Rattle.machine.specs.Registers.{Kind, bits, empty, number, ring_at, sound_register}
+use Rattle.machine.specs.Registers.{Kind, bits, empty, number, sound_register}
 use Rattle.machine.specs.Step.{value_of}
 use Rattle.machine.specs.declared.registers.Register.{Register}
 use Rattle.machine.specs.declared.registers.Register.TheVariants.{Bits, Number}
@@ -49,12 +49,6 @@ module _ (a : Register) (sound : sound_register a ≡ true) where
         leb-true l 59 (left_true (leb l 59) (shares_below (2 ^ l) x) rest),
         in_range (right_true (leb l 59) (shares_below (2 ^ l) x) rest),
       )
-
--- a number is of its ring
-pub number_kind_lem : (k : Kind) → is_number k ≡ true → k ≡ number (ring_at k)
-number_kind_lem empty h = cc
-number_kind_lem (number r) h = refl
-number_kind_lem (bits l) h = cc
 
 -- the total of a number
 pub number_value : {a : Register} (r : Ring) (x : Sharing) {v : ℕ} → a ≡ Number r x → v ≡ (x.s0 + x.s1 + x.s2) % modulus_of r → v ≡ value_of a

@@ -38,12 +38,6 @@ width_at empty = 0
 width_at (number r) = width_of r
 width_at (bits l) = 0
 
--- the ring of a number, R13 where there is none
-abbrev pub ring_at : Kind → Ring
-ring_at empty = R13
-ring_at (number r) = r
-ring_at (bits l) = R13
-
 -- l of bits
 abbrev pub count_at : Kind → ℕ
 count_at empty = 0

@@ -10,10 +10,6 @@ use Rattle.std.specs.Prelude.{Err, Ok}
 use Rattle.session.specs.Standings.{Standing, after_bytes, begun}
 use Rattle.survey.specs.Chunks.{Answered, Chunks, Reached, bytes_read, goes_on, next, none}
 
--- u64::MAX turns, that no run uses up
-abbrev most : ℕ
-most = 18446744073709551615
-
 -- between two turns: no chunk was read yet, or the last one has another behind it, and each so far took a byte
 pub data Reading (v : Standing) (got : Answered) (buf : List ℕ) (turns : ℕ) : Type 0 where
   first : v ≡ begun → turns ≡ 0 → Reading v got buf turns
@@ -57,9 +53,3 @@ module _ {v u : Standing} {got : Answered} {buf : List ℕ} {turns : ℕ} (g : G
 
   pub onward : 0 < length buf → goes_on got u.lines ≡ true → Reading u got buf (turns + 1)
   onward room goes = later g.chunks v g.reads after room goes (omega (arith, g.bytes))
-
--- the turns are used up
-pub used_up : {v : Standing} {got : Answered} {buf : List ℕ} {turns : ℕ} → Reading v got buf turns → most ≤ turns → Reached v got buf
-used_up (first e none_yet) h = absurd (omega (arith, none_yet))
-used_up (later cs w reads after room goes bytes) h =
-    record { chunks = cs; before = w; reads = reads; after = after; ended = inr (omega (arith, bytes)) }

@@ -3,7 +3,7 @@ use Prim.Native.Nat.{ℕ, ◌+◌, ◌*◌, ◌-◌, ◌≤◌}
 use mathlib.Core.Path.{◌≡◌, ap}
 use native.Mathlib.Omega.{arith}
 use Rattle.ring.specs.Rings.{width_of}
-use Rattle.circuit.proofs.LoanLaw.{items_later, room_later, room_less, sends_count, sends_then}
+use Rattle.circuit.proofs.LoanLaw.{items_later, room_later, sends_count, sends_then}
 use Rattle.shift.proofs.ShiftLaw.{shifted}
 use Rattle.shift.proofs.shift.Goals as goal
 

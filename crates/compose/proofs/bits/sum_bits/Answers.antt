@@ -5,7 +5,7 @@ use native.Mathlib.Omega.{arith}
 use Rattle.ring.specs.Rings.{Sized}
 use Rattle.ring.proofs.RangeLaw.{sized, sized_gt}
 use Rattle.circuit.proofs.LoanLaw.{supplied_later}
-use Rattle.compose.proofs.TurnLaw.{all-summed, at-start, went_on}
+use Rattle.compose.proofs.TurnLaw.{at-start, went_on}
 use Rattle.compose.proofs.bits.sum_bits.Goals as goal
 
 pub loop-k-init : goal.loop-k-init

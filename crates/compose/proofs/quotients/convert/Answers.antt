@@ -1,6 +1,6 @@
 -- The majority gate, then the two bits of q.
 use native.Mathlib.Omega.{arith}
-use Rattle.circuit.proofs.LoanLaw.{items_later, room_later, room_less, sends_then}
+use Rattle.circuit.proofs.LoanLaw.{items_later, room_later, sends_then}
 use Rattle.compose.proofs.QuotientLaw.{converted}
 use Rattle.compose.proofs.quotients.convert.Goals as goal
 
