@@ -7,11 +7,10 @@ use native.Mathlib.Omega.{arith}
 use lib.ListN.{drop, length, length-append, length-map, length-replicate, replicate}
 use lib.Seq.{get_or-drop}
 use Rattle.ring.proofs.RangeLaw.{modulus-lt}
-use Rattle.gate.specs.Places.{Place, three}
-use Rattle.gate.specs.declared.sharing.Sharing.{Sharing}
-use Rattle.circuit.specs.Circuits.{Circuit, gates_of}
-use Rattle.circuit.specs.Lent.{ItemsBelow, Left, Long}
-use Rattle.circuit.specs.Loans.{ItemsIn, Sends, channels, circuit_left, tapes}
+use Rattle.gate.specs.Places.{three}
+use Rattle.circuit.specs.Circuits.{gates_of}
+use Rattle.circuit.specs.Lent.{ItemsBelow, Long}
+use Rattle.circuit.specs.Loans.{ItemsIn}
 use Rattle.circuit.specs.declared.lent.Lent.{Lent}
 use Rattle.machine.specs.Checks.{any_bad}
 use Rattle.order.specs.Tasks.{circuit_of, cost_of}

@@ -1,18 +1,17 @@
--- Gates on lent runs, one stretch after another: each is lent the part of the runs from its own first word on.
+-- One gate on lent runs, what a circuit leaves there, and the parts of runs that an order uses.
 use Prim.Native.Nat.{ℕ, ◌+◌, ◌-◌, ◌<◌, ◌≤◌}
-use mathlib.Core.List.{List, [], ◌∷◌, ◌++◌, append_assoc, append-nil}
-use mathlib.Core.Path.{◌≡◌, ap, fun_ext, refl, sym, ◌∙◌}
+use mathlib.Core.List.{List, [], ◌∷◌}
+use mathlib.Core.Path.{◌≡◌, ap, refl, sym, ◌∙◌}
 use native.Mathlib.Nat.{le_refl}
 use native.Mathlib.Omega.{arith}
-use lib.ListN.{drop, drop_of_length-le, length, length-append, length-drop, set, take}
-use lib.Seq.{drop_at, drop-drop, set_split, take_all, take_at}
+use lib.ListN.{drop, length, length-drop, set}
+use lib.Seq.{set_split, take_all}
 use borrow.Rule.Slice.PartMut.{mid_of, put_mid}
 use Rattle.gate.specs.Places.{Place, parts, tabled, three}
 use Rattle.gate.specs.declared.sharing.Sharing.{Sharing}
 use Rattle.gate.proofs.PlaceLaw.{each}
 use Rattle.circuit.specs.Circuits.{Circuit, Gate, after, channelled, ends, heads, result, sent, starts, words}
 use Rattle.circuit.specs.Lent.{Left, Long, Ran}
-use Rattle.circuit.proofs.RunLaw.{drops, ends-append, length-sent, sent-append}
 
 -- a run's part from k on, and the run with other words there
 abbrev pub part_from : ℕ → List ℕ → List ℕ

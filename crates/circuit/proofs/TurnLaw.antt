@@ -2,16 +2,14 @@
 use Prim.Native.Nat.{ℕ}
 use mathlib.Core.List.{List, [], ◌∷◌}
 use mathlib.Core.Path.{◌≡◌, ap, refl, sym}
-use native.Mathlib.Nat.{add-zero}
 use lib.ListN.{set}
-use lib.Seq.{get_or-drop}
 use Rattle.gate.specs.Places.{Place, Sent, p0, p1, p2, parts, sharing, three}
 use Rattle.gate.specs.declared.sharing.Sharing.{Sharing}
 use Rattle.gate.proofs.PlaceLaw.{each}
 use Rattle.circuit.specs.Circuits.{Gate, upto, words}
 use Rattle.circuit.specs.Lent.{Long, Ran, Turned}
 use Rattle.circuit.specs.Sharings.{items_at}
-use Rattle.circuit.proofs.LentLaw.{part_is, part_from, ran-gate, ran_none, rooms}
+use Rattle.circuit.proofs.LentLaw.{ran-gate, ran_none, rooms}
 
 -- the words that a gate sends, by place
 pub stored : {z : Sharing} (x : Place → ℕ) (c d : Place → List ℕ)

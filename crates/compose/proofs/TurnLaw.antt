@@ -24,7 +24,7 @@ use Rattle.circuit.proofs.LentLaw.{ran-gate}
 use Rattle.circuit.proofs.LoanLaw.{ran_then, same_now, sends_count, sends_then}
 use Rattle.circuit.proofs.RunLaw.{drops}
 use Rattle.compose.specs.Steps.{Joins}
-use Rattle.compose.specs.Sums.{Holds, JoinsBit, Summed, bit_gates, bits_summed}
+use Rattle.compose.specs.Sums.{Holds, JoinsBit, Summed, bit_gates}
 use Rattle.compose.proofs.SumLaw.{more_summed, none_summed, ran-summed}
 
 -- one bit: the two joins are its gates

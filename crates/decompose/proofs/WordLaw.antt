@@ -2,9 +2,8 @@
 use Prim.Native.Nat.{ℕ, ◌*◌, ◌-◌, ◌/◌, ◌%◌, ◌<◌, ◌^◌}
 use mathlib.Core.Path.{◌≡◌}
 use native.Mathlib.Nat.{mod-lt}
-use native.Mathlib.Omega.{arith}
 use lib.Bits.{and_mask, bit_and, bit_xor}
-use lib.Pow.{pow_pos, shl_exact}
+use lib.Pow.{pow_pos}
 use Rattle.ring.proofs.WordLaw.{shifted_one}
 use Rattle.decompose.specs.Words.{upper}
 

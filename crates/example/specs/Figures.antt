@@ -10,7 +10,6 @@ use Rattle.machine.specs.Step.{value_of}
 use Rattle.machine.specs.declared.orders.Order.{Order}
 use Rattle.machine.specs.declared.orders.Order.TheVariants.{Add, Compose, Convert, Deal, Decompose, Multiply, Open, Scale, Shift}
 use Rattle.machine.specs.declared.registers.Machine.{Machine}
-use Rattle.machine.specs.declared.registers.Register.{Register}
 use Rattle.act.specs.Jobs.{Entry, Job, Outcome, View, course, view}
 use Rattle.act.specs.Secrecy.{Hidden, tapes_with}
 use Rattle.protocol.specs.Orders.{Seen, column, orders}

@@ -2,15 +2,14 @@
 use Prim.Native.Nat.{ℕ, ◌+◌, ◌%◌, ◌≤◌, ◌^◌}
 use mathlib.Core.Bool.{Bool, false, true, ◌&&◌, ◌||◌}
 use mathlib.Core.Path.{◌≡◌, refl}
-use borrow.Author.Tests.{leb-true, ltb-true}
-use lib.Dec.{leb, ltb}
+use borrow.Author.Tests.{leb-true}
+use lib.Dec.{leb}
 use Rattle.ring.specs.Rings.{modulus_of}
 use Rattle.ring.specs.declared.rings.Ring.{Ring}
 use Rattle.gate.specs.Places.{InRange, shares_below, total}
 use Rattle.gate.specs.declared.sharing.Sharing.{Sharing}
 use Rattle.gate.proofs.PlaceLaw.{in_range}
-use Rattle.machine.specs.Checks.{is_number}
-use Rattle.machine.specs.Registers.{Kind, bits, empty, number, sound_register}
+use Rattle.machine.specs.Registers.{sound_register}
 use Rattle.machine.specs.Step.{value_of}
 use Rattle.machine.specs.declared.registers.Register.{Register}
 use Rattle.machine.specs.declared.registers.Register.TheVariants.{Bits, Number}

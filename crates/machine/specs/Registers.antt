@@ -2,7 +2,6 @@
 use Rattle.std.specs.Prelude.{ℕ, ◌^◌, Bool, true, ◌&&◌, List, [], ◌∷◌, map, leb, get_or, replicate, set}
 use Rattle.ring.specs.Rings.{modulus_of, width_of}
 use Rattle.ring.specs.declared.rings.Ring.{Ring}
-use Rattle.ring.specs.declared.rings.Ring.TheVariants.{R13}
 use Rattle.gate.specs.Places.{shares_below}
 use Rattle.gate.specs.declared.sharing.Sharing.{Sharing}
 use Rattle.circuit.specs.Sharings.{zeros}

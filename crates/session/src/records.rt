@@ -38,7 +38,9 @@ impl SoundRecord {
     pub fn empty() -> SoundRecord
         ensures { result ≡ empty_machine }
     {
-        SoundRecord { words: [0; RECORD_WORDS] }
+        SoundRecord {
+            words: [0; RECORD_WORDS],
+        }
     }
 
     // The record that words say, a sound one: a job can be taken up at any.

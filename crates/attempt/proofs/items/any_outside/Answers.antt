@@ -1,5 +1,4 @@
 -- Invariant: an item is out of range where the word of the items seen has the top bit, or one from k on is.
-use native.Mathlib.Nat.{sub-zero}
 use native.Mathlib.Omega.{arith}
 use Rattle.attempt.proofs.ItemsLaw.{high_end, high_on}
 use Rattle.attempt.proofs.items.any_outside.Goals as goal

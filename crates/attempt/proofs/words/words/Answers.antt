@@ -1,6 +1,5 @@
 -- Each task's arm: what its order asks of what it is lent, and what that leaves.
 use mathlib.Core.Path.{refl}
-use Rattle.std.proofs.Common.{rules}
 use Rattle.attempt.proofs.SupplyLaw.{items_whole}
 use Rattle.attempt.proofs.words.words.Goals as goal
 

@@ -3,9 +3,8 @@ use Prim.Native.Nat.{ℕ}
 use mathlib.Core.List.{List}
 use mathlib.Core.Path.{refl, sym, ◌∙◌}
 use Rattle.gate.specs.Places.{Place, three}
-use Rattle.machine.proofs.KindLaw.{neither}
 use Rattle.order.proofs.PrepareLaw.{parsed, unparsed}
-use Rattle.batch.proofs.CodeLaw.{counts, figures-left, length_met, passed_answer, ring_met}
+use Rattle.batch.proofs.CodeLaw.{figures-left, length_met, passed_answer, ring_met}
 use Rattle.batch.proofs.calls.decompose_batch.Goals as goal
 
 pub returns-then-not_count : goal.returns-then-not_count

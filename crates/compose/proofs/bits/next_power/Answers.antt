@@ -1,7 +1,5 @@
 -- A whole turn is none.
-use Prim.Native.Nat.{◌+◌, ◌^◌}
 use native.Mathlib.Omega.{arith}
-use Rattle.ring.proofs.CongLaw.{cong_refl}
 use Rattle.ring.proofs.Theorems.{whole_rotation}
 use Rattle.compose.proofs.bits.next_power.Goals as goal
 

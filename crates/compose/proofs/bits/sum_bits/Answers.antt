@@ -1,6 +1,5 @@
 -- Invariant: k bits are composed.
 use Prim.Native.Nat.{◌*◌}
-use mathlib.Core.Path.{◌≡◌}
 use native.Mathlib.Omega.{arith}
 use Rattle.ring.specs.Rings.{Sized}
 use Rattle.ring.proofs.RangeLaw.{sized, sized_gt}

@@ -1,6 +1,6 @@
 -- Invariant: the words of the bytes so far stand in the run.
 use Prim.Native.Nat.{◌/◌, ◌<◌}
-use mathlib.Core.Path.{◌≡◌, refl}
+use mathlib.Core.Path.{refl}
 use native.Mathlib.Omega.{arith}
 use lib.ListN.{length}
 use Rattle.drawing.specs.Raws.{raw_words}

@@ -1,4 +1,3 @@
-use mathlib.Core.Path.{◌∙◌}
 use native.Mathlib.Omega.{arith}
 use Rattle.ring.proofs.RangeLaw.{sized_lt}
 use Rattle.gate.proofs.words.mask_alone.Goals as goal

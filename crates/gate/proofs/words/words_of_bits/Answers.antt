@@ -1,7 +1,5 @@
 -- The product of two bits is a bit.
-use native.Mathlib.Omega.{arith}
-use Rattle.ring.proofs.RangeLaw.{sized_gt}
-use Rattle.gate.proofs.WordLaw.{bit_times_lt, words_of_bits}
+use Rattle.gate.proofs.WordLaw.{words_of_bits}
 use Rattle.gate.proofs.words.words_of_bits.Goals as goal
 
 pub returns : goal.returns
