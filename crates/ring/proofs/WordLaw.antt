@@ -1,7 +1,7 @@
 -- How words are cut by shifts and masks, at every width: what the code of the arithmetic computes.
 use Prim.Native.Nat.{ℕ, ◌+◌, ◌*◌, ◌-◌, ◌/◌, ◌%◌, ◌<◌, ◌≤◌, ◌^◌}
 use mathlib.Core.Path.{◌≡◌, ◌∙◌, ap, sym}
-use native.Mathlib.Nat.{div-add-mod', div-le_of_le-mul, div-lt_iff_lt-mul, le_of_lt, mod-lt, mul-le-mul, mul-mod_left}
+use native.Mathlib.Nat.{div-add-mod', div-le_of_le-mul, div-lt_iff_lt-mul, le_of_lt, le_refl, mod-lt, mul-le-mul, mul-mod_left}
 use native.Mathlib.Omega.{arith}
 use lib.Bits.{and_le_r, and_mask, bit_and}
 use lib.Dec.{lit<}
@@ -151,3 +151,28 @@ module _ (k p : ℕ) (width : p ≡ modulus (2 * k + 1)) where
         square = mul-le-mul room room;
         whole = size;
       }
+
+  -- each product of parts, and what is carried, in numbers
+  module _ (top : k ≤ 30) where
+    square : 2 ^ k * 2 ^ k ≤ 2 ^ 60
+    square = let room : 2 ^ k ≤ 2 ^ 30 = pow_mono top in mul-le-mul room room
+
+    pub cross_fits : {a b : ℕ} → a < p → b < p → upper k a * lower k p b ≤ 2 ^ 61
+    cross_fits ha hb = omega (arith, parted ha hb, square)
+
+    pub across_fits : {a b : ℕ} → a < p → b < p → lower k p a * upper k b ≤ 2 ^ 61
+    across_fits ha hb = omega (arith, parted ha hb, square)
+
+    pub tops_fit : {a b : ℕ} → a < p → b < p → upper k a * upper k b ≤ 2 ^ 60
+    tops_fit ha hb = omega (arith, parted ha hb, square)
+
+    pub bottoms_fit : {a b : ℕ} → a < p → b < p → lower k p a * lower k p b ≤ 2 ^ 62
+    bottoms_fit ha hb = omega (arith, parted ha hb, square)
+
+    pub cut_fits : (m : ℕ) → cut k p m < 2 ^ 61
+    cut_fits m = omega (arith, cut-le m, width, modulus-suc (2 * k + 1), odd_power k, square)
+
+pub carry_fits : (k m : ℕ) → 2 ≤ k → 4 * (m / 2 ^ k) ≤ m
+carry_fits k m some = omega (arith, div-add-mod' m (2 ^ k), mul-le-mul (le_refl (m / 2 ^ k)) (pow_mono {i = 2} some))
+
+pub ruleset columns_fit = (cross_fits, across_fits, tops_fit, bottoms_fit, cut_fits, carry_fits)

@@ -53,6 +53,7 @@ pub fn mul_add_mod(e: u64, p: u64, a: u64, b: u64, c: u64, d: u64, s: u64) -> u6
 }
 
 // a × b + c × d modulo p = 2^(2k+1) - 1 in 64-bit words, not reduced: the factors are cut above bit k, the middle column at bit k.
+#[tactic(auto, using(crate::proofs::WordLaw::columns_fit))]
 fn columns(k: u64, p: u64, a: u64, b: u64, c: u64, d: u64) -> u64
     requires modulus { p ≡ modulus (2 * k + 1) }
     requires width { (2 ≤ k) × (k ≤ 30) }
