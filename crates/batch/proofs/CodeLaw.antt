@@ -184,16 +184,6 @@ module _ (e : ℕ) where
 
 -- ---- the call
 
--- three runs that are 64 long
-pub counts : (n₀ n₁ n₂ : ℕ) {b : Bool} → b ≡ not_count (three n₀ n₁ n₂) → b ≡ false → (n₀ ≡ 64) × (n₁ ≡ 64) × (n₂ ≡ 64)
-counts n₀ n₁ n₂ is h =
-    let all = not-false _ (sym is ∙ h) in
-    let rest = right_true (eqb n₀ 64) _ all in (
-      eqb-true n₀ 64 (left_true (eqb n₀ 64) _ all),
-      eqb-true n₁ 64 (left_true (eqb n₁ 64) _ rest),
-      eqb-true n₂ 64 (right_true (eqb n₁ 64) _ rest),
-    )
-
 module _ (e l : ℕ) (a T c z : Place → List ℕ) {b b' : Bool} (figures : b ≡ not_count (lengths a)) (left : b' ≡ not_count (lengths z)) where
   six : {t : Bool} → (b || b') ≡ t → (not_count (lengths a) || not_count (lengths z)) ≡ t
   six h = ap₂ ◌||◌ (sym figures) (sym left) ∙ h

@@ -65,7 +65,7 @@ left_of {C} ran is =
 pub rooms : {t₀ t₁ t₂ : List ℕ} → Long 1 t₀ t₁ t₂ → (i : Place) → 0 < length (three t₀ t₁ t₂ i)
 rooms {t₀} {t₁} {t₂} h = each (λ i. 0 < length (three t₀ t₁ t₂ i)) (omega arith) (omega arith) (omega arith)
 
--- what is long enough, and in range, for k + n words is so from k on for n
+-- what is long enough for k + n words is so from k on for n
 part_long : (n k : ℕ) (t : List ℕ) → k + n ≤ length t → n ≤ length (part_from k t)
 part_long n k t h = rw (part_is k t, length-drop k t) (omega arith)
 

@@ -1,4 +1,4 @@
--- One gate a turn on lent runs: the items that it takes, the words that it sends, and a stage of such gates.
+-- One gate a turn on lent runs: the words that it sends, and a stage of no gate.
 use Prim.Native.Nat.{ℕ}
 use mathlib.Core.List.{List, [], ◌∷◌}
 use mathlib.Core.Path.{◌≡◌, ap, refl, sym}

@@ -1,5 +1,5 @@
 // The sharings that the orders start from.
-ghost use Rattle.std.specs.Prelude.{◌≡◌, ◌+◌};
+ghost use Rattle.std.specs.Prelude.{◌≡◌};
 ghost use Rattle.ring.specs.Rings.{modulus_of};
 ghost use Rattle.gate.specs.Places.{InRange};
 ghost use Rattle.circuit.specs.Sharings.{four_times, zeros};

@@ -1,4 +1,4 @@
--- The words as the code computes them: a bit stored by a shift, and the low bits by a mask.
+-- The low bits of a word, as the code computes them by a mask.
 use Prim.Native.Nat.{ℕ, ◌*◌, ◌-◌, ◌/◌, ◌%◌, ◌<◌, ◌^◌}
 use mathlib.Core.Path.{◌≡◌}
 use native.Mathlib.Nat.{mod-lt}

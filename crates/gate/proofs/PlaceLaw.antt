@@ -1,4 +1,4 @@
--- Laws of places: what holds at one holds at each, by one statement.
+-- Laws of places: what holds at one holds at each, by one statement; what the test of a sharing says.
 use Prim.Native.Nat.{ℕ}
 use mathlib.Core.Bool.{and-eq-true_iff, true}
 use mathlib.Core.Path.{◌≡◌, fun_ext, refl}

@@ -9,6 +9,7 @@ use Rattle.ring.proofs.BitLaw.{and_bit, xor_bit}
 use Rattle.ring.proofs.CongLaw.{cong_add, cong_mod, cong_mul, cong_of_eq, cong_refl, cong_sym, cong_trans}
 use Rattle.ring.specs.Rings.{bit_of}
 use Rattle.gate.specs.Words.{GateWords, Sliced, pair_at}
+use Rattle.ring.proofs.RangeLaw.{sized_gt, sized_lt}
 use Rattle.gate.specs.Gates.{crossed, gated, mask, word}
 use Rattle.gate.specs.Places.{InRange, Pair, PairBelow, Place, held, next, p0, p1, p2, pair, parts, sharing, three}
 use Rattle.gate.specs.declared.sharing.Sharing.{Sharing}
@@ -174,6 +175,8 @@ words_by_bit m x b₂ t h₀ h₁ h₂ =
     (word_of m x.s1 x.s2 0 b₂ t.s1 t.s2 (x.s1 * b₂) (omega arith) h₁)
     (word_of m x.s2 x.s0 b₂ 0 t.s2 t.s0 ((x.s2 + x.s0) * b₂) (omega arith) h₂)
 
--- a bit times a number below m is below m
-pub bit_times_lt : {m x b : ℕ} → x < m → b < 2 → x * b < m
-bit_times_lt {x = x} {b = b} h bit = let few : b ≤ 1 = omega arith in omega (arith, mul-le-mul (le_refl x) few)
+-- a number times a bit is at most the number
+pub bit_times_le : {x b : ℕ} → b < 2 → x * b ≤ x
+bit_times_le {x} {b} bit = let few : b ≤ 1 = omega arith in omega (arith, mul-le-mul (le_refl x) few)
+
+pub ruleset bit_times = (bit_times_le, sized_gt, sized_lt)

@@ -22,6 +22,7 @@ fn mask_word(p: u64, t: u64, tf: u64) -> u64
 }
 
 // z_i modulo p = 2^e - 1, from the sub-shares i and i + 1 of x, of y and of the items.
+#[tactic(auto, using(ring::proofs::RangeLaw::sized_lt))]
 fn ring_word(e: u64, p: u64, x: u64, xf: u64, y: u64, yf: u64, t: u64, tf: u64) -> u64
     requires sized { Sized e p }
     requires left { PairBelow p (pair x xf) }
@@ -73,6 +74,7 @@ pub fn bit_words(x: Sharing, y: Sharing, t: Sharing) -> Sharing
 }
 
 // z_i modulo p = 2^e - 1, from its products and the items.
+#[tactic(auto, using(ring::proofs::RangeLaw::sized_lt))]
 fn masked(e: u64, p: u64, products: u64, t: u64, tf: u64) -> u64
     requires sized { Sized e p }
     requires products { products < 5 * p }
@@ -85,6 +87,7 @@ fn masked(e: u64, p: u64, products: u64, t: u64, tf: u64) -> u64
 }
 
 // z_i where its products are 0.
+#[tactic(auto, using(ring::proofs::RangeLaw::sized_lt))]
 fn mask_alone(e: u64, p: u64, t: u64, tf: u64) -> u64
     requires sized { Sized e p }
     requires items { PairBelow p (pair t tf) }
@@ -112,6 +115,7 @@ pub fn words_of_bits(e: u64, p: u64, b0: u64, b1: u64, t: Sharing) -> Sharing
 
 // z_0, z_1 and z_2 modulo p = 2^e - 1, of x, which need not be reduced, with a bit at place 2. Not mapped: z_0 has no product. The last
 // word is made first: the other way round the compiler keeps a counter of composing's loop in memory, a tenth of that order's time.
+#[tactic(auto, using(crate::proofs::WordLaw::bit_times))]
 pub fn words_by_bit(e: u64, p: u64, x: Sharing, b2: u64, t: Sharing) -> Sharing
     requires sized { Sized e p }
     requires left { InRange (2 * p + 2) x }

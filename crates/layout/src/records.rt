@@ -17,6 +17,7 @@ pub const CHANNELS_AT: usize = MASKS_AT + 1;
 
 pub const DEALER_AT: usize = MASKS_AT + 2;
 
+// How many words a record has.
 pub const RECORD_WORDS: usize = MASKS_AT + 3;
 
 // Whether words say a sound record, where they say one: looks at every word. An unsound record is a record too.

@@ -1,5 +1,5 @@
 // The line that is printed for an order.
-ghost use Rattle.std.specs.Prelude.{◌≡◌, ◌+◌, ◌≤◌, length};
+ghost use Rattle.std.specs.Prelude.{◌+◌, ◌≤◌, length};
 ghost use Rattle.line.specs.Printed.{Wrote, field, printed};
 
 use itoa::Buffer;

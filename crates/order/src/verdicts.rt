@@ -2,7 +2,7 @@
 ghost use Rattle.std.specs.Prelude.{[], ◌∷◌, ◌++◌, ◌≡◌, ◌+◌, ltb, IfOk};
 ghost use Rattle.std.specs.List.{list_any};
 ghost use Rattle.gate.specs.Places.{three};
-ghost use Rattle.machine.specs.Checks.{a_number, check, first_met, is_empty, is_number, two_numbers, uneven};
+ghost use Rattle.machine.specs.Checks.{a_number, first_met, is_empty, two_numbers, uneven};
 ghost use Rattle.machine.specs.Registers.{kind_of};
 ghost use Rattle.order.specs.Answers.{verdict_of};
 ghost use Rattle.order.specs.Attempts.{begin_checks, some_bits};

@@ -62,7 +62,3 @@ pub few_above : {e p : ℕ} (s : ℕ) → Sized e p → s < 7 * p → (s < p * 2
 few_above {e} {p} s h sum =
     let eight : 8 ≤ 2 ^ e = pow_mono {i = 3} (omega (arith, h)) in
     (omega (arith, mul-le-mul (le_refl p) eight), omega (arith, sized_lt h))
-
--- by half the width, which products are cut by
-pub halved : {e p : ℕ} → Sized e p → p ≡ modulus (2 * (e / 2) + 1)
-halved h = rw h.odd h.is

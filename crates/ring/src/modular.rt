@@ -6,6 +6,7 @@ ghost use Rattle.ring.specs.Modular.{Cong, diff};
 ghost use Rattle.ring.specs.Rings.{Sized, modulus, rotated, u};
 
 // a + b modulo p.
+#[tactic(auto, using(crate::proofs::FoldLaw::modulus_room))]
 pub fn add_mod(e: u64, p: u64, a: u64, b: u64) -> u64
     requires modulus { p ≡ modulus e }
     requires width { e < 64 }
@@ -18,6 +19,7 @@ pub fn add_mod(e: u64, p: u64, a: u64, b: u64) -> u64
 }
 
 // a - b modulo p.
+#[tactic(auto, using(crate::proofs::FoldLaw::modulus_room))]
 pub fn sub_mod(e: u64, p: u64, a: u64, b: u64) -> u64
     requires modulus { p ≡ modulus e }
     requires width { e < 64 }
@@ -142,6 +144,7 @@ fn fold(e: u64, p: u64, s: u64) -> u64
 }
 
 // s modulo p, of a sum of two numbers below p: with one more, s passes bit e just where p is to be taken away.
+#[tactic(auto, using(crate::proofs::FoldLaw::modulus_room))]
 pub fn reduce_once(e: u64, p: u64, s: u64) -> u64
     requires modulus { p ≡ modulus e }
     requires width { e < 64 }

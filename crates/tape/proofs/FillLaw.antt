@@ -43,10 +43,6 @@ abbrev pub joined : List ℕ → Filled → Filled
 joined p (filled xs used) = filled (p ++ xs) used
 joined p short = short
 
-pub joined_none : (f : Filled) → f ≡ joined [] f
-joined_none (filled xs used) = refl
-joined_none short = refl
-
 pub suffices-joined : (p : List ℕ) (f : Filled) → suffices (joined p f) ≡ suffices f
 unfolding suffices
 suffices-joined p (filled xs used) = refl

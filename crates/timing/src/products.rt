@@ -1,5 +1,5 @@
 // Products in a ring, element by element.
-ghost use Rattle.std.specs.Prelude.{◌≡◌, ◌+◌, ◌*◌, ◌≤◌, length};
+ghost use Rattle.std.specs.Prelude.{◌≡◌, length};
 ghost use Rattle.ring.specs.Lent.{Stands};
 ghost use Rattle.ring.specs.Rings.{Sized, modulus_of};
 ghost use Rattle.timing.specs.Products.{alike, multiplied, outcome, product, products};

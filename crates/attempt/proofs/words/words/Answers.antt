@@ -1,4 +1,4 @@
--- Each task's arm: what its order asks of what it is lent, and what that leaves.
+-- A shift composes with items of its ring.
 use mathlib.Core.Path.{refl}
 use Rattle.attempt.proofs.SupplyLaw.{items_whole}
 use Rattle.attempt.proofs.words.words.Goals as goal

@@ -21,11 +21,3 @@ returns c =
       is = c.reduce_short.ensures.is ∙ (cong_add (cong_refl c.args.products) c.mask_word-d.ensures.is).same;
       below = c.reduce_short.ensures.below;
     }
-
-pub mask_word-d-requires : goal.mask_word-d-requires
-mask_word-d-requires c =
-    record { room = omega (arith, sized_lt c.requires.sized); items = c.requires.items }
-
-pub overflow_add-products : goal.overflow_add-products
-overflow_add-products c =
-    omega (arith, sized_lt c.requires.sized)

@@ -9,7 +9,3 @@ returns c = record {
   is = c.mul_add_mod.ensures.is ∙ ring_word_is _ _ _ _ _ _ _ _ _ c.add_mod-sum.ensures.is c.mask_word.ensures.is;
   below = c.mul_add_mod.ensures.below;
 }
-
-pub mask_word-requires : goal.mask_word-requires
-mask_word-requires c =
-    record { room = omega (arith, sized_lt c.requires.sized); items = c.requires.items }

@@ -1,4 +1,4 @@
--- The product of two bits is a bit.
+-- The three words, each by its function.
 use Rattle.gate.proofs.WordLaw.{words_of_bits}
 use Rattle.gate.proofs.words.words_of_bits.Goals as goal
 

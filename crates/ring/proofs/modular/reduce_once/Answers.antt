@@ -14,10 +14,6 @@ returns c =
     let is : bit_and (s + (s + 1) / 2 ^ c.args.e) p ≡ s % p = reduced c.args.e p s c.requires.modulus c.requires.sum in
     record { is = is; below = omega (arith, is, mod-lt s {m = p} (omega arith)) }
 
-pub overflow_add-result : goal.overflow_add-result
-overflow_add-result c =
-    omega (arith, modulus_room c.requires.modulus c.requires.width)
-
 pub overflow_add-result-2 : goal.overflow_add-result-2
 overflow_add-result-2 c =
     omega (

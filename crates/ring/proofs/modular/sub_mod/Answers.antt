@@ -11,9 +11,5 @@ difference : (p a b : ℕ) → b < p → (a + (p - b)) % p ≡ diff p a b
 unfolding diff
 difference p a b h = ap (λ (n : ℕ). (a + (p - n)) % p) (sym (mod-eq_of_lt h))
 
-pub overflow_add-a : goal.overflow_add-a
-overflow_add-a c =
-    omega (arith, modulus_room c.requires.modulus c.requires.width)
-
 pub returns-clause-is : goal.returns-clause-is
 returns-clause-is c = c.reduce_once.ensures.is ∙ difference _ _ _ c.requires.right
