@@ -25,7 +25,7 @@ use Rattle.machine.specs.declared.answers.Refusal.{Refusal}
 use Rattle.machine.specs.declared.answers.Refusal.TheVariants as refusal
 use Rattle.machine.specs.declared.answers.Refusal.TheVariants.{NotSixtyFour}
 use Rattle.machine.specs.Answers.{number_of}
-use Rattle.machine.proofs.KindLaw.{left_true, right_true}
+use Rattle.machine.proofs.KindLaw.{left_true}
 use Rattle.order.proofs.CheckLaw.{met, passed}
 use Rattle.order.proofs.VerdictLaw.{numbered}
 use Rattle.attempt.proofs.ItemsLaw.{items_below}

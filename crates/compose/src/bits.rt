@@ -40,6 +40,7 @@ fn join_shares(p: u64, u: Sharing, v: Sharing, z: Sharing) -> Sharing
 }
 
 // Sub-share 0 of bit j of w with sub-share 1; what they give is not reduced. Each bit has a place of its own: nothing to map.
+#[tactic(auto, using(ring::proofs::RangeLaw::sized_lt))]
 fn join_first(e: u64, p: u64, w: Sharing, j: u64, lent: &mut Lent<'_>) -> Sharing
     requires sized { Sized e p }
     requires place { j < 64 }
@@ -57,6 +58,7 @@ fn join_first(e: u64, p: u64, w: Sharing, j: u64, lent: &mut Lent<'_>) -> Sharin
 }
 
 // What these give with sub-share 2, not reduced.
+#[tactic(auto, using(ring::proofs::RangeLaw::sized_lt))]
 fn join_last(e: u64, p: u64, w: Sharing, j: u64, half: Sharing, lent: &mut Lent<'_>) -> Sharing
     requires sized { Sized e p }
     requires place { j < 64 }
@@ -84,6 +86,7 @@ fn join_bit(e: u64, p: u64, w: Sharing, j: u64, lent: &mut Lent<'_>) -> Sharing
 }
 
 // sum + 2^j × b, not reduced.
+#[tactic(auto, using(ring::proofs::RangeLaw::sized_gt))]
 fn add_weighted(e: u64, p: u64, sum: Sharing, j: u64, b: Sharing) -> Sharing
     requires sized { Sized e p }
     requires sum { InRange (p + p) sum }

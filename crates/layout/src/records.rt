@@ -39,6 +39,7 @@ pub fn see(words: &[u64]) -> Option<bool>
 }
 
 // Register k of a record, empty past the last. Below 16 the cast loses nothing: TryFrom would add a failure that never comes.
+#[tactic(auto, using(crate::proofs::SaysLaw::says_length))]
 pub fn register_at(words: &[u64], k: u64) -> Register
     requires { (m : Machine) × Says words.now m }
     ensures { (m : Machine) → Says words.now m → result ≡ register_at m k }

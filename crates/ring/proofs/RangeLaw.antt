@@ -8,7 +8,7 @@ use native.Mathlib.Omega.{arith}
 use borrow.Author.Tests.{eqb-true}
 use lib.Dec.{eqb, lit≤}
 use lib.Pow.{pow_mono}
-use Rattle.ring.specs.Rings.{Sized, modulus, modulus_of, quarter_of, ring_of, width_of}
+use Rattle.ring.specs.Rings.{Sized, modulus_of, quarter_of, ring_of, width_of}
 use Rattle.ring.specs.declared.rings.Ring.{Ring}
 use Rattle.ring.specs.declared.rings.Ring.TheVariants.{R13, R31, R61}
 use Rattle.ring.proofs.Theorems.{modulus-suc, quarter_below}

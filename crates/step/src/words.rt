@@ -15,6 +15,7 @@ use order::{Positions, Sources, answer};
 
 // The step of 83 words that say a record, sound or not as `sure` tells: its callers know that already, and a refusal for it is the
 // order's, after which the words stand.
+#[tactic(auto, using(layout::proofs::SaysLaw::says_length))]
 pub fn step_words(
     sure: bool,
     o: Order,

@@ -1,20 +1,9 @@
 -- Each place adds its own share.
-use Prim.Native.Nat.{◌+◌, ◌*◌, ◌<◌, ◌^◌}
-use native.Mathlib.Omega.{arith}
+use Prim.Native.Nat.{◌+◌, ◌*◌, ◌^◌}
 use Rattle.std.proofs.Common.{rules}
 use Rattle.ring.specs.Modular.{Cong}
-use Rattle.ring.proofs.RangeLaw.{sized_gt}
 use Rattle.gate.proofs.PlaceLaw.{each}
 use Rattle.compose.proofs.bits.add_weighted.Goals as goal
-
-pub zip-requires-clause-zero : goal.zip-requires-clause-zero
-zip-requires-clause-zero c = let few : c.args.b.s0 < 5 * c.args.p = omega (arith, c.requires.bit, sized_gt c.requires.sized) in search rules
-
-pub zip-requires-clause-one : goal.zip-requires-clause-one
-zip-requires-clause-one c = let few : c.args.b.s1 < 5 * c.args.p = omega (arith, c.requires.bit, sized_gt c.requires.sized) in search rules
-
-pub zip-requires-clause-two : goal.zip-requires-clause-two
-zip-requires-clause-two c = let few : c.args.b.s2 < 5 * c.args.p = omega (arith, c.requires.bit, sized_gt c.requires.sized) in search rules
 
 pub returns-clause-is : goal.returns-clause-is
 returns-clause-is c =

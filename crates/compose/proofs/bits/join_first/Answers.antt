@@ -1,9 +1,8 @@
--- A bit is below every modulus.
+-- The places without a bit join to nothing.
 use Prim.Native.Nat.{ℕ}
 use mathlib.Core.Path.{◌≡◌, subst}
 use native.Mathlib.Omega.{arith}
 use Rattle.std.proofs.Common.{rules}
-use Rattle.ring.proofs.RangeLaw.{sized_lt}
 use Rattle.gate.specs.Gates.{gated}
 use Rattle.gate.specs.Places.{Place, p0, p1, p2, parts, sharing, three}
 use Rattle.circuit.specs.Loans.{items_next}
@@ -19,9 +18,6 @@ shares-of : (b₀ b₁ : ℕ) {p : ℕ} (z h : Sharing) {n : Sharing} → n ≡ 
     → (i : Place) → Joined p (three b₀ 0 0 i) (three 0 b₁ 0 i) (parts z i) (parts h i)
 shares-of b₀ b₁ {p} z h e joined =
     subst (λ (n : Sharing). (i : Place) → Joined p (three b₀ n.s1 n.s2 i) (three n.s0 b₁ n.s2 i) (parts z i) (parts h i)) e joined
-
-pub join_shares-requires-clause-room : goal.join_shares-requires-clause-room
-join_shares-requires-clause-room c = sized_lt c.requires.sized
 
 pub returns-clause-is : goal.returns-clause-is
 returns-clause-is c =

@@ -3,7 +3,6 @@ use Prim.Native.Nat.{ℕ}
 use mathlib.Core.Path.{◌≡◌, subst}
 use native.Mathlib.Omega.{arith}
 use Rattle.std.proofs.Common.{rules}
-use Rattle.ring.proofs.RangeLaw.{sized_lt}
 use Rattle.gate.specs.Gates.{gated}
 use Rattle.gate.specs.Places.{Place, p0, p1, p2, parts, sharing, three}
 use Rattle.circuit.specs.Loans.{items_next}
@@ -19,9 +18,6 @@ shares-of : (u : Sharing) (b₂ : ℕ) {p : ℕ} (z h : Sharing) {n : Sharing} �
     → (i : Place) → Joined p (parts u i) (three 0 0 b₂ i) (parts z i) (parts h i)
 shares-of u b₂ {p} z h e joined =
     subst (λ (n : Sharing). (i : Place) → Joined p (parts u i) (three n.s0 n.s1 b₂ i) (parts z i) (parts h i)) e joined
-
-pub join_shares-requires-clause-room : goal.join_shares-requires-clause-room
-join_shares-requires-clause-room c = sized_lt c.requires.sized
 
 pub returns-clause-is : goal.returns-clause-is
 returns-clause-is c =

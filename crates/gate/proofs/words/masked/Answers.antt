@@ -3,7 +3,7 @@ use Prim.Native.Nat.{◌+◌}
 use mathlib.Core.Path.{◌∙◌}
 use native.Mathlib.Omega.{arith}
 use Rattle.ring.proofs.CongLaw.{cong_add, cong_refl}
-use Rattle.ring.proofs.RangeLaw.{few_above, sized_lt}
+use Rattle.ring.proofs.RangeLaw.{few_above}
 use Rattle.gate.proofs.words.masked.Goals as goal
 
 pub reduce_short-requires : goal.reduce_short-requires

@@ -1,6 +1,4 @@
 use mathlib.Core.Path.{◌∙◌}
-use native.Mathlib.Omega.{arith}
-use Rattle.ring.proofs.RangeLaw.{sized_lt}
 use Rattle.gate.proofs.WordLaw.{ring_word_is}
 use Rattle.gate.proofs.words.ring_word.Goals as goal
 

@@ -1,7 +1,4 @@
--- A number times a bit is no more than the number.
-use Prim.Native.Nat.{◌+◌, ◌*◌, ◌<◌}
-use native.Mathlib.Omega.{arith}
-use Rattle.ring.proofs.RangeLaw.{sized_gt, sized_lt}
+-- The three words, each by its function.
 use Rattle.gate.proofs.WordLaw.{words_by_bit}
 use Rattle.gate.proofs.words.words_by_bit.Goals as goal
 

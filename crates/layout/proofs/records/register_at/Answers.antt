@@ -12,21 +12,10 @@ use Rattle.layout.proofs.records.register_at.Goals as goal
 pub returns-then-k-gt15 : goal.returns-then-k-gt15
 returns-then-k-gt15 c = λ m says. past_said says _ c.if-k-gt15.true
 
-long : (c : goal.Else-k-gt15) → length c.args.words.now ≡ 83
-long c = says_length c.requires.1
-
 pub read_register-requires : goal.read_register-requires
 read_register-requires c =
     let long : length c.args.words.now ≡ 83 = says_length c.requires.1 in
     rw (part_is, length-drop) (omega arith)
-
-pub slice_bounds-read_register-count : goal.slice_bounds-read_register-count
-slice_bounds-read_register-count c =
-    omega (arith, long c)
-
-pub slice_bounds-read_register-start : goal.slice_bounds-read_register-start
-slice_bounds-read_register-start c =
-    omega (arith, long c)
 
 pub returns : goal.returns
 returns c = λ m says.

@@ -2,9 +2,7 @@
 use Prim.Native.Nat.{ℕ, ◌+◌, ◌-◌, ◌%◌, ◌<◌}
 use mathlib.Core.Path.{◌≡◌, ◌∙◌, ap, sym}
 use native.Mathlib.Nat.{mod-eq_of_lt}
-use native.Mathlib.Omega.{arith}
 use Rattle.ring.specs.Modular.{diff}
-use Rattle.ring.proofs.FoldLaw.{modulus_room}
 use Rattle.ring.proofs.modular.sub_mod.Goals as goal
 
 difference : (p a b : ℕ) → b < p → (a + (p - b)) % p ≡ diff p a b

@@ -3,7 +3,6 @@ use Prim.Native.Nat.{ℕ}
 use mathlib.Core.Bool.{Bool}
 use mathlib.Core.List.{List}
 use mathlib.Core.Path.{◌≡◌, refl}
-use native.Mathlib.Omega.{arith}
 use lib.ListN.{get_or}
 use Rattle.gate.specs.Places.{three}
 use Rattle.machine.specs.Checks.{Tapes}
@@ -13,7 +12,6 @@ use Rattle.machine.specs.declared.orders.Order.{Order}
 use Rattle.machine.specs.declared.registers.Machine.{Machine}
 use Rattle.machine.specs.declared.registers.Register.{Register}
 use Rattle.layout.specs.Layout.{Says}
-use Rattle.layout.proofs.SaysLaw.{says_length}
 use Rattle.order.specs.Sources.{first_source, second_source}
 use Rattle.step.specs.Found.{found_in}
 use Rattle.step.proofs.StepLaw.{found_in_lem, written}
@@ -26,15 +24,6 @@ finds : {s : Bool} (o : Order) {ws : List ℕ} {x y : ℕ} {a b : Register}
     → (m : Machine) → Says ws m → s ≡ sound m
     → record { sources = record { sound = s; a = a; b = b }; at = record { masks = get_or ws 80 0; channels = get_or ws 81 0; dealer = get_or ws 82 0 } } ≡ found_in m o
 finds {s} o {ws} ex ha ey hb m says is = found_in_lem m o ws says is ex (ha m says) ey (hb m says)
-
-pub bounds-record-80 : goal.bounds-record-80
-bounds-record-80 c = let n = says_length c.requires.1 in omega arith
-
-pub bounds-record-81 : goal.bounds-record-81
-bounds-record-81 c = let n = says_length c.requires.1 in omega arith
-
-pub bounds-record-82 : goal.bounds-record-82
-bounds-record-82 c = let n = says_length c.requires.1 in omega arith
 
 pub decide-k-requires : goal.decide-k-requires
 decide-k-requires c =
