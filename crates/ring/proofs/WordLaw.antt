@@ -138,40 +138,39 @@ module _ (k p : ℕ) (width : p ≡ modulus (2 * k + 1)) where
     bottoms = omega (arith, mul-le-mul (lower-le a) (lower-le b));
   }
 
+  squared : k ≤ 30 → 2 ^ k * 2 ^ k ≤ 2 ^ 60
+  squared top = let room : 2 ^ k ≤ 2 ^ 30 = pow_mono top in mul-le-mul room room
+
   pub carried : (m : ℕ) → 2 ≤ k → k ≤ 30 → m ≤ 8 * (2 ^ k * 2 ^ k) → Carried k p m
   carried m low top bound =
-      let L = 2 ^ k in
-      let room : L ≤ 2 ^ 30 = pow_mono top in
-      let size : p + 1 ≡ 2 * (L * L) = omega (arith, width, modulus-suc (2 * k + 1), odd_power k) in
+      let size : p + 1 ≡ 2 * (2 ^ k * 2 ^ k) = omega (arith, width, modulus-suc (2 * k + 1), odd_power k) in
       record {
-        carry = div-le_of_le-mul L (omega arith);
+        carry = div-le_of_le-mul (2 ^ k) (omega arith);
         rest = omega (arith, cut-le m);
         least = pow_mono {i = 2} low;
-        narrow = room;
-        square = mul-le-mul room room;
+        narrow = pow_mono top;
+        square = squared top;
         whole = size;
       }
 
-  -- each product of parts, and what is carried, in numbers
+  -- each product of parts, and what is cut from the middle column, in numbers
   module _ (top : k ≤ 30) where
-    square : 2 ^ k * 2 ^ k ≤ 2 ^ 60
-    square = let room : 2 ^ k ≤ 2 ^ 30 = pow_mono top in mul-le-mul room room
-
     pub cross_fits : {a b : ℕ} → a < p → b < p → upper k a * lower k p b ≤ 2 ^ 61
-    cross_fits ha hb = omega (arith, parted ha hb, square)
+    cross_fits ha hb = omega (arith, parted ha hb, squared top)
 
     pub across_fits : {a b : ℕ} → a < p → b < p → lower k p a * upper k b ≤ 2 ^ 61
-    across_fits ha hb = omega (arith, parted ha hb, square)
+    across_fits ha hb = omega (arith, parted ha hb, squared top)
 
     pub tops_fit : {a b : ℕ} → a < p → b < p → upper k a * upper k b ≤ 2 ^ 60
-    tops_fit ha hb = omega (arith, parted ha hb, square)
+    tops_fit ha hb = omega (arith, parted ha hb, squared top)
 
     pub bottoms_fit : {a b : ℕ} → a < p → b < p → lower k p a * lower k p b ≤ 2 ^ 62
-    bottoms_fit ha hb = omega (arith, parted ha hb, square)
+    bottoms_fit ha hb = omega (arith, parted ha hb, squared top)
 
     pub cut_fits : (m : ℕ) → cut k p m < 2 ^ 61
-    cut_fits m = omega (arith, cut-le m, width, modulus-suc (2 * k + 1), odd_power k, square)
+    cut_fits m = omega (arith, cut-le m, width, modulus-suc (2 * k + 1), odd_power k, squared top)
 
+-- and what the middle column carries, at every width
 pub carry_fits : (k m : ℕ) → 2 ≤ k → 4 * (m / 2 ^ k) ≤ m
 carry_fits k m some = omega (arith, div-add-mod' m (2 ^ k), mul-le-mul (le_refl (m / 2 ^ k)) (pow_mono {i = 2} some))
 
