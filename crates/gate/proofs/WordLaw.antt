@@ -7,9 +7,9 @@ use lib.Bits.{and_lt, and_mod, and_shr, bit_and, bit_xor, xor_lt, xor_mod, xor_s
 use Rattle.ring.specs.Modular.{Cong, diff}
 use Rattle.ring.proofs.BitLaw.{and_bit, xor_bit}
 use Rattle.ring.proofs.CongLaw.{cong_add, cong_mod, cong_mul, cong_of_eq, cong_refl, cong_sym, cong_trans}
+use Rattle.ring.proofs.RangeLaw.{sized_gt, sized_lt}
 use Rattle.ring.specs.Rings.{bit_of}
 use Rattle.gate.specs.Words.{GateWords, Sliced, pair_at}
-use Rattle.ring.proofs.RangeLaw.{sized_gt, sized_lt}
 use Rattle.gate.specs.Gates.{crossed, gated, mask, word}
 use Rattle.gate.specs.Places.{InRange, Pair, PairBelow, Place, held, next, p0, p1, p2, pair, parts, sharing, three}
 use Rattle.gate.specs.declared.sharing.Sharing.{Sharing}
@@ -179,4 +179,5 @@ words_by_bit m x b₂ t h₀ h₁ h₂ =
 pub bit_times_le : {x b : ℕ} → b < 2 → x * b ≤ x
 bit_times_le {x} {b} bit = let few : b ≤ 1 = omega arith in omega (arith, mul-le-mul (le_refl x) few)
 
+-- what keeps a number times a bit within a word: the product, and the modulus from both sides
 pub ruleset bit_times = (bit_times_le, sized_gt, sized_lt)

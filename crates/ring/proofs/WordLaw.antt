@@ -153,7 +153,7 @@ module _ (k p : ℕ) (width : p ≡ modulus (2 * k + 1)) where
         whole = size;
       }
 
-  -- each product of parts, and what is cut from the middle column, in numbers
+  -- the same bounds without k, and that of what is cut from the middle column
   module _ (top : k ≤ 30) where
     pub cross_fits : {a b : ℕ} → a < p → b < p → upper k a * lower k p b ≤ 2 ^ 61
     cross_fits ha hb = omega (arith, parted ha hb, squared top)
@@ -170,8 +170,9 @@ module _ (k p : ℕ) (width : p ≡ modulus (2 * k + 1)) where
     pub cut_fits : (m : ℕ) → cut k p m < 2 ^ 61
     cut_fits m = omega (arith, cut-le m, width, modulus-suc (2 * k + 1), odd_power k, squared top)
 
--- and what the middle column carries, at every width
-pub carry_fits : (k m : ℕ) → 2 ≤ k → 4 * (m / 2 ^ k) ≤ m
-carry_fits k m some = omega (arith, div-add-mod' m (2 ^ k), mul-le-mul (le_refl (m / 2 ^ k)) (pow_mono {i = 2} some))
+-- what is above bit k is a quarter at most, where k is 2 or more
+pub carry_quarter : (k m : ℕ) → 2 ≤ k → 4 * (m / 2 ^ k) ≤ m
+carry_quarter k m some = omega (arith, div-add-mod' m (2 ^ k), mul-le-mul (le_refl (m / 2 ^ k)) (pow_mono {i = 2} some))
 
-pub ruleset columns_fit = (cross_fits, across_fits, tops_fit, bottoms_fit, cut_fits, carry_fits)
+-- what keeps the columns within a word
+pub ruleset columns_fit = (cross_fits, across_fits, tops_fit, bottoms_fit, cut_fits, carry_quarter)

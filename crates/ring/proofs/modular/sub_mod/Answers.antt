@@ -1,4 +1,4 @@
--- a + (p - b) is below 2p, and what is subtracted is its own remainder.
+-- What is subtracted is its own remainder.
 use Prim.Native.Nat.{ℕ, ◌+◌, ◌-◌, ◌%◌, ◌<◌}
 use mathlib.Core.Path.{◌≡◌, ◌∙◌, ap, sym}
 use native.Mathlib.Nat.{mod-eq_of_lt}
