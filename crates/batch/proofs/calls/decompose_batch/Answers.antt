@@ -9,40 +9,25 @@ use Rattle.batch.proofs.calls.decompose_batch.Goals as goal
 
 pub returns-then-not_count : goal.returns-then-not_count
 returns-then-not_count c =
-    let a = c.args in
-    let shares : Place → List ℕ = three a.a0.now a.a1.now a.a2.now in
-    let masks : Place → List ℕ = three a.m0.now a.m1.now a.m2.now in
-    let channels : Place → List ℕ = three a.c0.now a.c1.now a.c2.now in
-    let results : Place → List ℕ = three a.z0.now a.z1.now a.z2.now in
     record {
-      is = length_met a.e a.l shares masks channels results c.not_count.ensures c.not_count-2.ensures c.if-not_count.true;
+      is = length_met _ _ _ _ _ _ c.not_count.ensures c.not_count-2.ensures c.if-not_count.true;
       lent = (refl, refl, refl, refl, refl, refl);
     }
 
 pub returns-in_err-r : goal.returns-in_err-r
 returns-in_err-r c =
     let none = unparsed c.batch_ring.result _ _ (sym c.ok_or.ensures.value ∙ c.in_err-r.was) in
-    let a = c.args in
-    let shares : Place → List ℕ = three a.a0.now a.a1.now a.a2.now in
-    let masks : Place → List ℕ = three a.m0.now a.m1.now a.m2.now in
-    let channels : Place → List ℕ = three a.c0.now a.c1.now a.c2.now in
-    let results : Place → List ℕ = three a.z0.now a.z1.now a.z2.now in
     record {
       is = passed_answer _ _ c.from_residual.ensures.1
-          (rw none.1 (ring_met a.e a.l shares masks channels results c.not_count.ensures c.not_count-2.ensures c.if-not_count.false
+          (rw none.1 (ring_met _ _ _ _ _ _ c.not_count.ensures c.not_count-2.ensures c.if-not_count.false
           (sym c.batch_ring.ensures ∙ none.0)));
       lent = (refl, refl, refl, refl, refl, refl);
     }
 
 pub returns : goal.returns
 returns c =
-    let a = c.args in
-    let shares : Place → List ℕ = three a.a0.now a.a1.now a.a2.now in
-    let masks : Place → List ℕ = three a.m0.now a.m1.now a.m2.now in
-    let channels : Place → List ℕ = three a.c0.now a.c1.now a.c2.now in
-    let results : Place → List ℕ = three a.z0.now a.z1.now a.z2.now in
     record {
-      is = figures-left a.e a.l shares masks channels results c.not_count.ensures c.not_count-2.ensures
+      is = figures-left _ _ _ _ _ _ c.not_count.ensures c.not_count-2.ensures
           c.if-not_count.false (sym c.batch_ring.ensures ∙ parsed c.batch_ring.result _ (sym c.ok_or.ensures.value ∙ c.in_ok-r.was)) c.in_ring.ensures;
       lent = (refl, refl, refl, refl, refl, refl);
     }
