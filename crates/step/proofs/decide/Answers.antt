@@ -21,23 +21,18 @@ takes o told e m is = rw e at (told m is)
 
 pub returns-in-Deal : goal.returns-in-Deal
 returns-in-Deal c = λ m is.
-    let a = c.args in
-    let lent : Tapes = record { masks = three a.m0.now a.m1.now a.m2.now; dealer = a.dealer.now } in
-    let channels : Place → List ℕ = three a.c0.now a.c1.now a.c2.now in
-    taken lent channels (takes a.o c.way_of.ensures c.in-Deal.is m (sources_found m a.o is)) (c.deal.ensures m (dealing m a.o is) lent.masks channels)
+    let o = c.args.o in
+    taken _ _ (takes o c.way_of.ensures c.in-Deal.is m (sources_found m o is)) (c.deal.ensures m (dealing m o is) _ _)
 
 pub returns-in-Attempt : goal.returns-in-Attempt
 returns-in-Attempt c = λ m is.
-    let a = c.args in
-    let prepares = takes a.o c.way_of.ensures c.in-Attempt.is m (sources_found m a.o is) in
-    stepped {l = three c.attempt.new.c0 c.attempt.new.c1 c.attempt.new.c2} a.dealer.now (three a.m0.now a.m1.now a.m2.now)
-    (three a.c0.now a.c1.now a.c2.now) prepares (c.attempt.ensures m (positions-at m a.o is) prepares.ready)
+    let o = c.args.o in
+    let prepares = takes o c.way_of.ensures c.in-Attempt.is m (sources_found m o is) in
+    stepped _ _ _ prepares (c.attempt.ensures m (positions-at m o is) prepares.ready)
 
 pub returns-in-Open : goal.returns-in-Open
 returns-in-Open c = λ m is.
-    let a = c.args in
-    let lent : Tapes = record { masks = three a.m0.now a.m1.now a.m2.now; dealer = a.dealer.now } in
-    let from = sources_found m a.o is in
-    let e = takes a.o c.way_of.ensures c.in-Open.is m from in
-    taken {l = three c.open.new.c0 c.open.new.c1 c.open.new.c2} lent (three a.c0.now a.c1.now a.c2.now) e
-    (c.open.ensures m (from ∙ ap (sources_in m) e) (ap (λ (q : Positions). q.channels) (positions-at m a.o is)) lent)
+    let o = c.args.o in
+    let from = sources_found m o is in
+    let e = takes o c.way_of.ensures c.in-Open.is m from in
+    taken _ _ e (c.open.ensures m (from ∙ ap (sources_in m) e) (ap (λ (q : Positions). q.channels) (positions-at m o is)) _)

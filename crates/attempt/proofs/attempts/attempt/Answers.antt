@@ -15,11 +15,9 @@ returns-in_err-r c = λ m of ready.
 pub returns-in-Local : goal.returns-in-Local
 unfolding attempted
 returns-in-Local c = λ m of ready.
-    let a = c.args in
     rw (c.in_ok-r.was ∙ ap Ok c.in-Local.is)
-    (record { fits = (ready_local m a.d c.in_ok-r.was c.in-Local.is ready, omega arith, omega arith); is = refl })
+    (record { fits = (ready_local m _ c.in_ok-r.was c.in-Local.is ready, omega arith, omega arith); is = refl })
 
 pub returns-in-Gates : goal.returns-in-Gates
 returns-in-Gates c = λ m of ready.
-    let a = c.args in
-    rw (c.in_ok-r.was ∙ ap Ok c.in-Gates.is) (c.perform.ensures m of (ready_gates m a.d c.in_ok-r.was c.in-Gates.is ready).0)
+    rw (c.in_ok-r.was ∙ ap Ok c.in-Gates.is) (c.perform.ensures m of (ready_gates m _ c.in_ok-r.was c.in-Gates.is ready).0)

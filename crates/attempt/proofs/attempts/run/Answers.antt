@@ -9,12 +9,11 @@ use Rattle.attempt.proofs.attempts.run.Goals as goal
 pub bad_items-requires : goal.bad_items-requires
 bad_items-requires c =
     let a = c.args in
-    record { modulus = cost_modulus a.t c.requires.cost; long = long_on (a.k.bits + a.k.ring) a.at.masks c.requires.masks }
+    record { modulus = cost_modulus _ c.requires.cost; long = long_on (a.k.bits + a.k.ring) a.at.masks c.requires.masks }
 
 pub returns-then-bad_items : goal.returns-then-bad_items
 returns-then-bad_items c = λ m of seat.
-    let a = c.args in
-    bad_tried a.t a.d m (costs a.t c.requires.fit c.requires.cost) of a.m0.now a.m1.now a.m2.now a.c0.now a.c1.now a.c2.now
+    bad_tried _ _ m (costs _ c.requires.fit c.requires.cost) of _ _ _ _ _ _
     c.bad_items.ensures c.if-bad_items.true
 
 pub words-z-requires : goal.words-z-requires
@@ -22,13 +21,12 @@ words-z-requires c =
     let a = c.args in
     let n : ℕ = a.k.bits + a.k.ring in record {
       fit = c.requires.fit;
-      supplied = supplied a.t c.requires.cost (long_on n a.at.masks c.requires.masks)
+      supplied = supplied _ c.requires.cost (long_on n a.at.masks c.requires.masks)
           (long_on n a.at.channels c.requires.room) c.bad_items.ensures c.if-bad_items.false;
     }
 
 pub returns : goal.returns
 returns c = λ m of seat.
-    let a = c.args in
-    gates-tried a.t a.d m (costs a.t c.requires.fit c.requires.cost) of a.m0.now a.m1.now a.m2.now a.c0.now a.c1.now a.c2.now
+    gates-tried _ _ m (costs _ c.requires.fit c.requires.cost) of _ _ _ _ _ _
     c.bad_items.ensures c.if-bad_items.false seat
     c.words-z.ensures c.left.ensures

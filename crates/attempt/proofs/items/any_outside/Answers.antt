@@ -5,14 +5,13 @@ use Rattle.attempt.proofs.items.any_outside.Goals as goal
 
 pub loop-k-preserved : goal.loop-k-preserved
 loop-k-preserved c =
-    let a = c.args in (
+    (
       omega arith,
-      high_on 63 a.p a.n c.loop-k.k c.loop-k.all a.m0.now a.m1.now a.m2.now c.loop-k.invariant.1
+      high_on 63 _ _ c.loop-k.k c.loop-k.all _ _ _ c.loop-k.invariant.1
           c.beyond.result c.beyond-in-loop-k.result c.beyond-in-loop-k-2.result c.beyond.ensures c.beyond-in-loop-k.ensures
           c.beyond-in-loop-k-2.ensures (omega arith),
     )
 
 pub returns : goal.returns
 returns c =
-    let a = c.args in
-    high_end 63 a.p a.n c.loop-k.k c.loop-k.all a.m0.now a.m1.now a.m2.now c.loop-k.invariant.1 (omega arith)
+    high_end 63 _ _ c.loop-k.k c.loop-k.all _ _ _ c.loop-k.invariant.1 (omega arith)

@@ -9,14 +9,12 @@ use Rattle.attempt.proofs.items.any_wider.Goals as goal
 
 pub loop-k-preserved : goal.loop-k-preserved
 loop-k-preserved c =
-    let a = c.args in
     let item : List ℕ → ℕ = λ t. get_or t c.loop-k.k 0 in (
       omega arith,
-      high_on 1 2 a.n c.loop-k.k c.loop-k.all a.m0.now a.m1.now a.m2.now c.loop-k.invariant.1
-          (item a.m0.now) (item a.m1.now) (item a.m2.now) refl refl refl (omega arith),
+      high_on 1 2 _ c.loop-k.k c.loop-k.all _ _ _ c.loop-k.invariant.1
+          (item _) (item _) (item _) refl refl refl (omega arith),
     )
 
 pub returns : goal.returns
 returns c =
-    let a = c.args in
-    high_end 1 2 a.n c.loop-k.k c.loop-k.all a.m0.now a.m1.now a.m2.now c.loop-k.invariant.1 (omega arith)
+    high_end 1 2 _ c.loop-k.k c.loop-k.all _ _ _ c.loop-k.invariant.1 (omega arith)

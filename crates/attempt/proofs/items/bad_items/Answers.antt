@@ -5,5 +5,5 @@ use Rattle.attempt.proofs.items.bad_items.Goals as goal
 pub returns : goal.returns
 returns c =
     let a = c.args in
-    bad_parts a.k.bits 2 (replicate a.k.ring a.k.modulus) a.m0.now a.m1.now a.m2.now
+    bad_parts a.k.bits 2 (replicate a.k.ring a.k.modulus) _ _ _
     c.any_wider-first.ensures c.any_outside.ensures

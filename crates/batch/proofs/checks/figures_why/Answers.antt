@@ -19,23 +19,14 @@ any_outside-requires c =
 
 pub returns-then-not-l-most : goal.returns-then-not-l-most
 returns-then-not-l-most c =
-    let a = c.args in
-    let shares : Place → List ℕ = three a.a0.now a.a1.now a.a2.now in
-    let lent = lengths_told a.len in
-    bits_met a.r a.l shares lent c.width-most.ensures (ap not c.if-not-l-most.true)
+    bits_met _ _ _ (lengths_told c.args.len) c.width-most.ensures (ap not c.if-not-l-most.true)
 
 pub returns-then-any_outside : goal.returns-then-any_outside
 returns-then-any_outside c =
-    let a = c.args in
-    let shares : Place → List ℕ = three a.a0.now a.a1.now a.a2.now in
-    let lent = lengths_told a.len in
-    share_met a.r a.l shares lent c.width-most.ensures c.modulus-p.ensures (ap not c.if-not-l-most.false)
+    share_met _ _ _ (lengths_told c.args.len) c.width-most.ensures c.modulus-p.ensures (ap not c.if-not-l-most.false)
     c.any_outside.ensures c.if-any_outside.true
 
 pub returns : goal.returns
 returns c =
-    let a = c.args in
-    let shares : Place → List ℕ = three a.a0.now a.a1.now a.a2.now in
-    let lent = lengths_told a.len in
-    lengths-left a.r a.l shares lent c.width-most.ensures c.modulus-p.ensures
+    lengths-left _ _ _ (lengths_told c.args.len) c.width-most.ensures c.modulus-p.ensures
     (ap not c.if-not-l-most.false) c.any_outside.ensures c.if-any_outside.false c.room.ensures

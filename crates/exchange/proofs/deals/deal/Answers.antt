@@ -5,16 +5,13 @@ use Rattle.exchange.proofs.deals.deal.Goals as goal
 
 pub returns-in_err-begin : goal.returns-in_err-begin
 returns-in_err-begin c = λ m of M channels.
-    let a = c.args in
-    passed_change m _ _ c.from_residual.ensures.1 (deal_refused m a.d a.e a.v a.dealer.now of M channels _ (refused-first _ _ tt _ c.in_err-begin.ensures))
+    passed_change m _ _ c.from_residual.ensures.1 (deal_refused m _ _ _ _ of M channels _ (refused-first _ _ tt _ c.in_err-begin.ensures))
 
 pub returns-in_err-register : goal.returns-in_err-register
 returns-in_err-register c = λ m of M channels.
-    let a = c.args in
     passed_change m _ _ c.from_residual-in_err-register.ensures.1
-    (deal_refused m a.d a.e a.v a.dealer.now of M channels _ (fine_first _ _ tt c.in_ok-begin.ensures c.in_err-register.ensures.refusal))
+    (deal_refused m _ _ _ _ of M channels _ (fine_first _ _ tt c.in_ok-begin.ensures c.in_err-register.ensures.refusal))
 
 pub returns : goal.returns
 returns c = λ m of M channels.
-    let a = c.args in
-    deal_done m a.d a.e a.v a.dealer.now of M channels (fine_first _ _ tt c.in_ok-begin.ensures c.in_ok-register.ensures.refusal) c.in_ok-register.ensures.left
+    deal_done m _ _ _ _ of M channels (fine_first _ _ tt c.in_ok-begin.ensures c.in_ok-register.ensures.refusal) c.in_ok-register.ensures.left

@@ -41,13 +41,10 @@ write_change-requires c =
 
 pub returns : goal.returns
 returns c =
-    let a = c.args in
-    let lent : Tapes = record { masks = three a.m0.now a.m1.now a.m2.now; dealer = a.dealer.now } in record {
+    record {
       is = (λ m says is.
           let told = c.decide-k.ensures m (finds c.args.o c.source.ensures c.register_at.ensures c.other.ensures
           c.register_at-2.ensures m says is) in
-          written {c = three c.decide-k.new.c0 c.decide-k.new.c1 c.decide-k.new.c2}
-          {x = step a.o m lent (three a.c0.now a.c1.now a.c2.now)} c.answer.ensures
-          (c.write_change.ensures m says told.fits) told);
+          written {x = step _ m _ _} c.answer.ensures (c.write_change.ensures m says told.fits) told);
       lent = (refl, refl, refl, refl);
     }
