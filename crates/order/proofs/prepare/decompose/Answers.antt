@@ -15,13 +15,11 @@ use Rattle.order.proofs.prepare.decompose.Goals as goal
 
 pub returns-in_err-r : goal.returns-in_err-r
 returns-in_err-r c =
-    λ m from. let a = c.args in
-    told (Decompose a.d a.x a.l) m _ _ c.from_residual.ensures.1 (one_refused (decompose_one a.d a.x a.l) m from _ c.in_err-r.ensures.refusal)
+    λ m from. told _ m _ _ c.from_residual.ensures.1 (one_refused (decompose_one _ _ _) m from _ c.in_err-r.ensures.refusal)
 
 pub returns-then-not-l-most : goal.returns-then-not-l-most
 returns-then-not-l-most c =
-    λ m from. let a = c.args in
-    own_refused (decompose_one a.d a.x a.l) m from _ c.in_ok-r.ensures.refusal (ap kind_of c.in_ok-r.ensures.found)
+    λ m from. own_refused (decompose_one _ _ _) m from _ c.in_ok-r.ensures.refusal (ap kind_of c.in_ok-r.ensures.found)
     (met 7 [] (ap not (rw c.width-most.ensures at c.if-not-l-most.true)))
 
 pub returns : goal.returns
@@ -29,7 +27,7 @@ returns c =
     λ m from. let a = c.args in
     let most = width_of c.in_ok-r.r - 2 in
     let inside : leb 1 a.l && leb a.l most ≡ true = rw c.width-most.ensures at c.if-not-l-most.false in
-    decompose_prepares m a.d a.x (source_at (decompose_one a.d a.x a.l) m from c.in_ok-r.ensures.found) a.l
-    (one_fine (decompose_one a.d a.x a.l) m from c.in_ok-r.ensures.refusal (ap kind_of c.in_ok-r.ensures.found) (all_passed 7 (ap not inside)))
+    decompose_prepares m _ _ (source_at (decompose_one c.args.d c.args.x c.args.l) m from c.in_ok-r.ensures.found) a.l
+    (one_fine (decompose_one _ _ _) m from c.in_ok-r.ensures.refusal (ap kind_of c.in_ok-r.ensures.found) (all_passed 7 (ap not inside)))
     (leb-true 1 a.l (left_true (leb 1 a.l) (leb a.l most) inside))
     (leb-true a.l most (right_true (leb 1 a.l) (leb a.l most) inside))

@@ -1,34 +1,32 @@
-use mathlib.Core.Path.{ap}
-use Rattle.order.proofs.PrepareLaw.{good, one_fine, one_refused, own_refused, scale_one, scale_prepares, source_at}
-use Rattle.order.proofs.StepLaw.{told}
 use mathlib.Core.List.{[]}
-use Rattle.machine.specs.Registers.{kind_of}
+use mathlib.Core.Path.{◌≡◌, ap}
 use borrow.Author.Tests.{le-leb, lt-leb}
+use Rattle.machine.specs.Registers.{kind_of}
 use Rattle.machine.specs.declared.registers.Machine.{Machine}
+use Rattle.machine.specs.declared.orders.Order.TheVariants.{Scale}
 use Rattle.order.specs.Attempts.{record_refusal}
 use Rattle.order.specs.Sources.{sources_in}
 use Rattle.order.proofs.CheckLaw.{all_passed, met}
+use Rattle.order.proofs.PrepareLaw.{good, one_fine, one_refused, own_refused, scale_one, scale_prepares, source_at}
 use Rattle.order.proofs.SoundLaw.{number_in}
-use mathlib.Core.Path.{◌≡◌}
-use Rattle.machine.specs.declared.orders.Order.TheVariants.{Scale}
+use Rattle.order.proofs.StepLaw.{told}
 use Rattle.order.proofs.prepare.scale.Goals as goal
 
 pub returns-in_err-r : goal.returns-in_err-r
 returns-in_err-r c =
-    λ m from. let a = c.args in
-    told (Scale a.d a.x a.c) m _ _ c.from_residual.ensures.1 (one_refused (scale_one a.d a.x a.c) m from _ c.in_err-r.ensures.refusal)
+    λ m from. told _ m _ _ c.from_residual.ensures.1 (one_refused (scale_one _ _ _) m from _ c.in_err-r.ensures.refusal)
 
 pub returns-then-modulus-c : goal.returns-then-modulus-c
 returns-then-modulus-c c =
     λ m from. let a = c.args in
-    own_refused (scale_one a.d a.x a.c) m from _ c.in_ok-r.ensures.refusal (ap kind_of c.in_ok-r.ensures.found)
+    own_refused (scale_one _ _ _) m from _ c.in_ok-r.ensures.refusal (ap kind_of c.in_ok-r.ensures.found)
     (met 7 [] (le-leb _ a.c (rw c.modulus.ensures at c.if-modulus-c.true)))
 
 accepted : (c : goal.Else-modulus-c) (m : Machine) → c.args.s ≡ sources_in m (Scale c.args.d c.args.x c.args.c)
     → record_refusal (Scale c.args.d c.args.x c.args.c) m ≡ 0
 accepted c m from =
     let a = c.args in
-    one_fine (scale_one a.d a.x a.c) m from c.in_ok-r.ensures.refusal (ap kind_of c.in_ok-r.ensures.found)
+    one_fine (scale_one _ _ _) m from c.in_ok-r.ensures.refusal (ap kind_of c.in_ok-r.ensures.found)
     (all_passed 7 (lt-leb _ a.c (rw c.modulus.ensures at c.if-modulus-c.false)))
 
 -- some record has these sources
@@ -42,4 +40,4 @@ products-requires-clause-source c =
 pub returns : goal.returns
 returns c =
     λ m from. let a = c.args in
-    scale_prepares m a.d a.x (source_at (scale_one a.d a.x a.c) m from c.in_ok-r.ensures.found) a.c (accepted c.before m from) c.products.ensures
+    scale_prepares m _ _ (source_at (scale_one a.d a.x a.c) m from c.in_ok-r.ensures.found) a.c (accepted c.before m from) c.products.ensures
