@@ -13,8 +13,7 @@ use Rattle.lanes.proofs.stages.raising_lanes.Goals as goal
 
 pub loop-j-init : goal.loop-j-init
 loop-j-init c =
-    let a = c.args in
-    (nothing_sent a.lent.now (rising_none a.n a.s.now a.first a.o.now), (λ e far none. none))
+    (nothing_sent _ (rising_none _ _ _ _), (λ e far none. none))
 
 pub gate-z-requires-clause-room : goal.gate-z-requires-clause-room
 gate-z-requires-clause-room c = room_later c.loop-j.j 1 (omega (arith, c.loop-j-test.true)) c.requires.room c.loop-j.invariant.0
@@ -22,12 +21,11 @@ gate-z-requires-clause-room c = room_later c.loop-j.j 1 (omega (arith, c.loop-j-
 pub loop-j-preserved : goal.loop-j-preserved
 loop-j-preserved c =
     let head = c.loop-j in
-    let a = c.args in
     let now = c.store in
     let words : GateWords c.at-b.result head.carry (items_next head.lent) c.gate-z.result = search rules in
     let room = room_later head.j 1 (omega (arith, c.loop-j-test.true)) c.requires.room head.invariant.0 in (
       sends_then head.invariant.0 (one_sent refl room c.gate-z.ensures.sent)
-          (rising_more head.j a.n a.first a.s.now head.o now.new.self head.carry c.at-b.result (items_next c.loop-j.lent) c.gate-z.result
+          (rising_more head.j _ _ _ head.o now.new.self head.carry c.at-b.result (items_next c.loop-j.lent) c.gate-z.result
           c.loop-j-test.true c.requires.count now.ensures.whole c.at-b.ensures.is words
           (now.ensures.is ∙ ap (with_planes head.o head.j) c.bitxor.ensures)),
       (λ e far none. none_kept head.o c.bitxor.result (omega (arith, c.loop-j-test.true, far)) now.ensures.is (head.invariant.1 e far none)),

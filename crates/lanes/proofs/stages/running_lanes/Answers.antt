@@ -19,12 +19,11 @@ gate-z-requires-clause-room c = room_later c.loop-i.i 1 (omega (arith, c.loop-i-
 pub loop-i-preserved : goal.loop-i-preserved
 loop-i-preserved c =
     let head = c.loop-i in
-    let a = c.args in
     let now = c.total_in-in-loop-i in
     let words : MajorityWords c.at-b.result c.at-u.result head.last (items_next head.lent) c.gate-z.result = search rules in
     let room = room_later head.i 1 (omega (arith, c.loop-i-test.true)) c.requires.room head.invariant in
     sends_then head.invariant (one_sent refl room c.gate-z.ensures.sent)
-    (summing_more head.i a.n a.x.now a.s.now head.s now.new.s head.last c.bitxor-last.result c.at-b.result c.at-u.result
+    (summing_more head.i _ _ _ head.s now.new.s head.last c.bitxor-last.result c.at-b.result c.at-u.result
     (items_next c.loop-i.lent) c.gate-z.result c.loop-i-test.true c.requires.count now.ensures.whole c.at-b.ensures.is c.at-u.ensures.is
     words now.ensures.is c.bitxor-last.ensures)
 

@@ -3,5 +3,4 @@ use Rattle.layout.proofs.records.rise.Goals as goal
 
 pub returns : goal.returns
 returns c = λ m says.
-    let a = c.args in
-    risen says a.gates a.sent a.items
+    risen says _ _ _
