@@ -1,9 +1,5 @@
 -- Each way is the definition's step.
-use Prim.Native.Nat.{ℕ}
-use mathlib.Core.List.{List}
 use mathlib.Core.Path.{◌≡◌, ◌∙◌, ap}
-use Rattle.gate.specs.Places.{Place, three}
-use Rattle.machine.specs.Checks.{Tapes}
 use Rattle.machine.specs.declared.orders.Order.{Order}
 use Rattle.machine.specs.declared.registers.Machine.{Machine}
 use Rattle.order.specs.Sources.{sources_in}

@@ -1,7 +1,4 @@
-use Prim.Native.Nat.{ℕ}
-use mathlib.Core.List.{List}
 use mathlib.Core.Path.{refl}
-use Rattle.gate.specs.Places.{Place, three}
 use Rattle.step.proofs.StepLaw.{answered, found_is}
 use Rattle.step.proofs.step.Goals as goal
 

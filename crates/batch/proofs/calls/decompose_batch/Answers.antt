@@ -1,8 +1,5 @@
 -- Each way out of a call is what the definition leaves.
-use Prim.Native.Nat.{ℕ}
-use mathlib.Core.List.{List}
 use mathlib.Core.Path.{refl, sym, ◌∙◌}
-use Rattle.gate.specs.Places.{Place, three}
 use Rattle.order.proofs.PrepareLaw.{parsed, unparsed}
 use Rattle.batch.proofs.CodeLaw.{figures-left, length_met, passed_answer, ring_met}
 use Rattle.batch.proofs.calls.decompose_batch.Goals as goal

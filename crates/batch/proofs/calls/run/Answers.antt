@@ -1,6 +1,5 @@
 use Rattle.std.proofs.Common.{rules}
 use Rattle.ring.specs.Rings.{width_of}
-use Rattle.gate.specs.Places.{three}
 use Rattle.batch.proofs.CodeLaw.{performed_is}
 use Rattle.batch.proofs.calls.run.Goals as goal
 

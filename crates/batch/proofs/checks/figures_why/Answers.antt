@@ -1,10 +1,7 @@
 -- The verdict is the first of the checks that is met.
 use mathlib.Core.Bool.{not}
 use mathlib.Core.Path.{ap}
-use Prim.Native.Nat.{ℕ}
-use mathlib.Core.List.{List}
 use native.Mathlib.Omega.{arith}
-use Rattle.gate.specs.Places.{Place, three}
 use Rattle.attempt.specs.Lengths.{lengths_told}
 use Rattle.ring.proofs.RangeLaw.{modulus-lt}
 use Rattle.batch.proofs.CodeLaw.{bits_met, lengths-left, share_met}

@@ -1,7 +1,4 @@
 -- Each way out of a call is what the definition leaves.
-use Prim.Native.Nat.{ℕ}
-use mathlib.Core.List.{List}
-use Rattle.gate.specs.Places.{Place, three}
 use Rattle.interface.proofs.CallLaw.{batch-left, batch-refused}
 use Rattle.interface.proofs.batches.survey_batch.Goals as goal
 

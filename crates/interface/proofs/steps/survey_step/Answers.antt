@@ -1,9 +1,5 @@
 -- Each way out of a call is what the definition leaves.
-use Prim.Native.Nat.{ℕ}
-use mathlib.Core.List.{List}
 use mathlib.Core.Path.{sym, ◌∙◌}
-use Rattle.gate.specs.Places.{Place, three}
-use Rattle.machine.specs.Checks.{Tapes}
 use Rattle.machine.specs.Step.{step}
 use Rattle.layout.specs.Layout.{machine_of}
 use Rattle.layout.proofs.SaysLaw.{said}

@@ -2,7 +2,6 @@ use mathlib.Core.List.{[]}
 use mathlib.Core.Path.{ap, sym, ◌∙◌}
 use Rattle.machine.specs.Checks.{no_ring}
 use Rattle.machine.specs.Registers.{kind_of}
-use Rattle.machine.specs.declared.orders.Order.TheVariants.{Compose}
 use Rattle.order.proofs.CheckLaw.{all_passed, met}
 use Rattle.order.proofs.PrepareLaw.{compose_one, compose_prepares, one_fine, one_refused, own_refused, parsed, source_at, unparsed}
 use Rattle.order.proofs.StepLaw.{told}

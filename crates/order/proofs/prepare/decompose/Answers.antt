@@ -7,7 +7,6 @@ use lib.Dec.{leb}
 use Rattle.ring.specs.Rings.{width_of}
 use Rattle.machine.proofs.KindLaw.{left_true, right_true}
 use Rattle.machine.specs.Registers.{kind_of}
-use Rattle.machine.specs.declared.orders.Order.TheVariants.{Decompose}
 use Rattle.order.proofs.CheckLaw.{all_passed, met}
 use Rattle.order.proofs.PrepareLaw.{decompose_one, decompose_prepares, one_fine, one_refused, own_refused, source_at}
 use Rattle.order.proofs.StepLaw.{told}

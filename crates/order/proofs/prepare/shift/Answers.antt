@@ -5,7 +5,6 @@ use Prim.Native.Nat.{◌-◌, ◌≤◌}
 use borrow.Author.Tests.{le-leb, lt-leb}
 use Rattle.ring.specs.Rings.{width_of}
 use Rattle.machine.specs.Registers.{kind_of}
-use Rattle.machine.specs.declared.orders.Order.TheVariants.{Shift}
 use Rattle.order.proofs.CheckLaw.{all_passed, met}
 use Rattle.order.proofs.PrepareLaw.{one_fine, one_refused, own_refused, shift_one, shift_prepares, source_at}
 use Rattle.order.proofs.StepLaw.{told}

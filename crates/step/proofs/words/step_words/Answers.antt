@@ -4,8 +4,6 @@ use mathlib.Core.Bool.{Bool}
 use mathlib.Core.List.{List}
 use mathlib.Core.Path.{◌≡◌, refl}
 use lib.ListN.{get_or}
-use Rattle.gate.specs.Places.{three}
-use Rattle.machine.specs.Checks.{Tapes}
 use Rattle.machine.specs.Registers.{register_at, sound}
 use Rattle.machine.specs.Step.{step}
 use Rattle.machine.specs.declared.orders.Order.{Order}
