@@ -1,7 +1,6 @@
 -- Each way out of a call is what the definition leaves.
 use mathlib.Core.Path.{sym, ◌∙◌}
 use Rattle.machine.specs.Step.{step}
-use Rattle.layout.specs.Layout.{machine_of}
 use Rattle.layout.proofs.SaysLaw.{said}
 use Rattle.interface.proofs.CallLaw.{answer-length, order_unread, record_unread, seen, step_left, step-read, unseen}
 use Rattle.interface.proofs.steps.survey_step.Goals as goal
@@ -12,12 +11,12 @@ returns-then-answer-ne3-clause-is c =
 
 pub returns-in_default-clause-is : goal.returns-in_default-clause-is
 returns-in_default-clause-is c =
-    record_unread _ _ _ _ _ (unseen (machine_of _) c.see.ensures c.in_default.is)
+    record_unread _ _ _ _ _ (unseen _ c.see.ensures c.in_default.is)
 
 -- the record that the words say
 pub step_words-given-requires : goal.step_words-given-requires
 step_words-given-requires c =
-    let was = seen (machine_of _) c.see.ensures c.in-Some.is in
+    let was = seen _ c.see.ensures c.in-Some.is in
     (was.0, said _ was.0 was.1, was.2)
 
 pub returns-in_default-read_order-clause-is : goal.returns-in_default-read_order-clause-is
@@ -26,7 +25,7 @@ returns-in_default-read_order-clause-is c =
 
 pub returns-clause-is : goal.returns-clause-is
 returns-clause-is c =
-    let was = seen (machine_of _) c.see.ensures c.in-Some.is in
+    let was = seen _ c.see.ensures c.in-Some.is in
     step_left {x = step c.in-Some-read_order.o was.0 _ _}
     (c.step_words-given.ensures.is was.0 (said _ was.0 was.1) was.2) c.refusal.ensures c.write_answer.ensures
     ∙ step-read _ _ _ _ _ c.if-answer-ne3.false (sym c.read_order.ensures ∙ c.in-Some-read_order.is) was.1
