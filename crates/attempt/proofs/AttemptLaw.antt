@@ -28,7 +28,7 @@ use Rattle.machine.specs.Answers.{number_of}
 use Rattle.order.specs.Attempts.{attempted, length_verdict, lengths_of, masks_left, ran, tried}
 use Rattle.order.specs.Changes.{Changes}
 use Rattle.order.specs.Tasks.{Fit, Ready, Seated, circuit_of, kind_left, other_of, source_of}
-use Rattle.order.specs.Sources.{positions_in, public_at}
+use Rattle.order.specs.Sources.{GatesAt, public_at}
 use Rattle.order.specs.declared.sources.Positions.{Positions}
 use Rattle.order.specs.declared.changes.Change.{Change}
 use Rattle.order.specs.declared.changes.Change.TheVariants.{Stored}
@@ -86,11 +86,11 @@ put_written k n u ws h counted is =
     (append-nil h ∙ is ∙ ap₂ (λ (j : ℕ) (l : List ℕ). ws ++ drop j l) (sym counted) (part_is k u)
     ∙ ap (λ (l : List ℕ). ws ++ l) (drop-drop (length ws) k u))
 
-module _ (t : Task) (d : ℕ) (m : Machine) {at : Positions} {k : Cost} (cost : Costs t k) (of : at ≡ positions_in m) where
+module _ (t : Task) (d : ℕ) (m : Machine) {at : Positions} {k : Cost} (cost : Costs t k) (of : GatesAt at m) where
   -- checks of lengths that refuse, or do not
   module _ (T c : Place → List ℕ) {n : ℕ} (verdict : n ≡ first_met (gate_checks (k.bits + k.ring) (public_at at) (lengths_of T c))) where
     is_verdict : length_verdict t m T c ≡ n
-    is_verdict = rw (gates_cost cost) (sym (rw of at verdict))
+    is_verdict = rw (gates_cost cost) (sym (rw (of.masks, of.channels) at verdict))
 
     pub short : (w : Refusal) → n ≡ number_of w → Changes m (Err w) c (attempted (Ok (Gates t)) d m T c)
     unfolding attempted
@@ -103,7 +103,7 @@ module _ (t : Task) (d : ℕ) (m : Machine) {at : Positions} {k : Cost} (cost : 
   module _ (t₀ t₁ t₂ c₀ c₁ c₂ : List ℕ) {bad : Bool}
       (found : bad ≡ any_bad (replicate k.bits 2 ++ replicate k.ring k.modulus) (parts_from at.masks t₀ t₁ t₂)) where
     is_left : parts_from at.masks t₀ t₁ t₂ ≡ masks_left m (three t₀ t₁ t₂)
-    is_left = rw (part_is at.masks t₀, part_is at.masks t₁, part_is at.masks t₂, of)
+    is_left = rw (part_is at.masks t₀, part_is at.masks t₁, part_is at.masks t₂, of.masks)
 
     is_bad : any_bad (moduli (circuit_of t).gates) (masks_left m (three t₀ t₁ t₂)) ≡ bad
     is_bad = ap₂ any_bad cost.moduli (sym is_left) ∙ sym found
@@ -130,7 +130,7 @@ module _ (t : Task) (d : ℕ) (m : Machine) {at : Positions} {k : Cost} (cost : 
         → put_mid at.channels (length u - at.channels) u h ≡ written m.channels_at (channelled C X Y (masks_left m (three t₀ t₁ t₂)) i) u
         = λ i u h head.
         put_written at.channels (gates_of C) u (channelled C X Y P i) h (length-sent C.gates (starts C X Y) P i) head
-        ∙ ap₂ (λ (n : ℕ) (T : Place → List ℕ). written n (channelled C X Y T i) u) (ap (λ (q : Positions). q.channels) of) is_left in
+        ∙ ap₂ (λ (n : ℕ) (T : Place → List ℕ). written n (channelled C X Y T i) u) of.channels is_left in
         let same : put_back at.channels c₀ c₁ c₂ h₀ h₁ h₂
         ≡ tabled (λ i. written m.channels_at (channelled C X Y (masks_left m (three t₀ t₁ t₂)) i) (three c₀ c₁ c₂ i))
         = rw (put p0 c₀ h₀ (left.channels p0), put p1 c₁ h₁ (left.channels p1), put p2 c₂ h₂ (left.channels p2)) in

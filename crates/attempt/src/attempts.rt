@@ -8,7 +8,7 @@ ghost use Rattle.machine.specs.Checks.{first_met, gate_checks};
 ghost use Rattle.order.specs.Answers.{verdict_of};
 ghost use Rattle.order.specs.Attempts.{attempted, tried};
 ghost use Rattle.order.specs.Changes.{Changes};
-ghost use Rattle.order.specs.Sources.{positions_in, public_at};
+ghost use Rattle.order.specs.Sources.{GatesAt, public_at};
 ghost use Rattle.order.specs.Tasks.{Fit, Ready, Seated, cost_of};
 ghost use Rattle.attempt.specs.Lengths.{lengths_told};
 
@@ -51,7 +51,7 @@ fn run(
     requires cost { k ≡ cost_of t }
     requires masks { Long (at.masks + (k.bits + k.ring)) m0.now m1.now m2.now }
     requires room { Long (at.channels + (k.bits + k.ring)) c0.old c1.old c2.old }
-    ensures { (m : Machine) → at ≡ positions_in m → Seated m d
+    ensures { (m : Machine) → GatesAt at m → Seated m d
         → Changes m result (at_exit c0 c1 c2) (tried t d m (at_entry m0 m1 m2) (at_entry_mut c0 c1 c2)) }
 {
     let from = at.masks as usize;
@@ -85,7 +85,7 @@ fn perform(
     c2: &mut [u64],
 ) -> Result<Change, Refusal>
     requires fit { Fit t }
-    ensures { (m : Machine) → at ≡ positions_in m → Seated m d
+    ensures { (m : Machine) → GatesAt at m → Seated m d
         → Changes m result (at_exit c0 c1 c2) (attempted (Ok (Prepared.Gates t)) d m (at_entry m0 m1 m2) (at_entry_mut c0 c1 c2)) }
 {
     let k = t.cost();
@@ -106,7 +106,7 @@ pub fn attempt(
     c2: &mut [u64],
 ) -> Result<Change, Refusal>
     requires { (m : Machine) × Ready m d t }
-    ensures { (m : Machine) → at ≡ positions_in m → Ready m d t
+    ensures { (m : Machine) → GatesAt at m → Ready m d t
         → Changes m result (at_exit c0 c1 c2) (attempted t d m (at_entry m0 m1 m2) (at_entry_mut c0 c1 c2)) }
 {
     match t? {

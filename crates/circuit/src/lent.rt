@@ -1,5 +1,6 @@
 // What a list of gates is lent: the mask tapes, the channels, and how far both have come.
-ghost use Rattle.std.specs.Prelude.{◌≡◌};
+ghost use Rattle.std.specs.Prelude.{◌≡◌, ◌+◌};
+ghost use Rattle.circuit.specs.Lent.{Long};
 ghost use Rattle.circuit.specs.Loans.{Room, Sends, items_next, words_sent};
 
 use gate::Sharing;
@@ -18,10 +19,10 @@ pub struct Lent<'a> {
 }
 
 impl Lent<'_> {
-    // The next item of each mask tape.
+    // The next item of each mask tape; the channels need no room for it.
     #[inline(always)]
     pub fn items(&self) -> Sharing
-        requires { Room 1 self.now }
+        requires { Long (self.now.at + 1) self.now.m0.now self.now.m1.now self.now.m2.now }
         ensures { result ≡ items_next self.now }
     {
         Sharing {

@@ -44,11 +44,18 @@ impl Sharing {
         Sharing { s0, s1, s2 }
     }
 
-    // Whether each sub-share is below m. By place: three tests by `map` would need a test of the three results besides.
+    // Whether each sub-share is below m: one after the other, since check 1's outcome is public (docs/DECISIONS.md). By place: three
+    // tests by `map` would need a test of the three results besides.
     pub fn is_below(self, m: u64) -> bool
         ensures { result ≡ shares_below m self }
     {
-        (self.s0 < m) & ((self.s1 < m) & (self.s2 < m))
+        if m <= self.s0 {
+            return false;
+        }
+        if m <= self.s1 {
+            return false;
+        }
+        self.s2 < m
     }
 }
 

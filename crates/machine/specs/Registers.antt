@@ -2,6 +2,7 @@
 use Rattle.std.specs.Prelude.{ℕ, ◌^◌, Bool, true, ◌&&◌, List, [], ◌∷◌, map, leb, get_or, replicate, set}
 use Rattle.ring.specs.Rings.{modulus_of, width_of}
 use Rattle.ring.specs.declared.rings.Ring.{Ring}
+use Rattle.ring.specs.declared.rings.Ring.TheVariants.{R13}
 use Rattle.gate.specs.Places.{shares_below}
 use Rattle.gate.specs.declared.sharing.Sharing.{Sharing}
 use Rattle.circuit.specs.Sharings.{zeros}
@@ -30,6 +31,12 @@ abbrev pub register_of : Kind → Sharing → Register
 register_of empty x = Empty
 register_of (number r) x = Number r x
 register_of (bits l) x = Bits l x
+
+-- the ring of a number, R13 where there is none
+abbrev pub ring_at : Kind → Ring
+ring_at empty = R13
+ring_at (number r) = r
+ring_at (bits l) = R13
 
 -- e of a number
 abbrev pub width_at : Kind → ℕ

@@ -1,18 +1,67 @@
-// Whether a register is empty, its sub-shares and its value.
+// What is public of a register, its sub-shares and its value.
 ghost use Rattle.std.specs.Prelude.{true, ◌≡◌};
-ghost use Rattle.machine.specs.Checks.{is_empty};
-ghost use Rattle.machine.specs.Registers.{kind_of, shares_of, sound_register};
+ghost use Rattle.ring.specs.Rings.{modulus};
+ghost use Rattle.machine.specs.Checks.{is_bits, is_empty};
+ghost use Rattle.machine.specs.Registers.{count_at, kind_of, ring_at, shares_of, sound_register, width_at};
 ghost use Rattle.machine.specs.Step.{value_of};
 
 use crate::registers::Register;
 use circuit::zeros;
 use gate::Sharing;
+use ring::Ring;
 
 impl Register {
     pub fn is_empty(self) -> bool
         ensures { result ≡ is_empty (kind_of self) }
     {
         matches!(self, Register::Empty)
+    }
+
+    pub fn is_bits(self) -> bool
+        ensures { result ≡ is_bits (kind_of self) }
+    {
+        matches!(self, Register::Bits(_, _))
+    }
+
+    // The ring of a number, else R13: an order's checks match on the register, and a caller that knows it for a number need not.
+    pub fn ring(self) -> Ring
+        ensures { result ≡ ring_at (kind_of self) }
+    {
+        match self {
+            Register::Number(r, _) => r,
+            Register::Empty | Register::Bits(_, _) => Ring::R13,
+        }
+    }
+
+    // e of a number, else 0.
+    pub fn width(self) -> u64
+        ensures { result ≡ width_at (kind_of self) }
+    {
+        match self {
+            Register::Number(r, _) => r.width(),
+            Register::Empty | Register::Bits(_, _) => 0,
+        }
+    }
+
+    // p of a number, else 0.
+    #[tactic(auto, unfolding(ring::specs::Rings::modulus))]
+    pub fn modulus(self) -> u64
+        ensures { result ≡ modulus (width_at (kind_of self)) }
+    {
+        match self {
+            Register::Number(r, _) => r.modulus(),
+            Register::Empty | Register::Bits(_, _) => 0,
+        }
+    }
+
+    // l of bits, else 0.
+    pub fn count(self) -> u64
+        ensures { result ≡ count_at (kind_of self) }
+    {
+        match self {
+            Register::Bits(l, _) => l,
+            Register::Empty | Register::Number(_, _) => 0,
+        }
     }
 
     // The sub-shares, zeros where there are none.

@@ -1,6 +1,6 @@
 -- 01, "The nine orders": what an order reads of the record.
 -- Used by the code's contracts alone: no theorem's statement speaks of it.
-use Rattle.std.specs.Prelude.{ℕ, []}
+use Rattle.std.specs.Prelude.{ℕ, [], ◌≡◌}
 use Rattle.machine.specs.Registers.{Public, register_at, sound}
 use Rattle.machine.specs.declared.orders.Order.{Order}
 use Rattle.machine.specs.declared.orders.Order.TheVariants.{Add, Compose, Convert, Deal, Decompose, Multiply, Open, Scale, Shift}
@@ -40,6 +40,11 @@ sources_in m o =
 -- the positions of a record
 abbrev pub positions_in : Machine → Positions
 positions_in m = record { masks = m.masks_at; channels = m.channels_at; dealer = m.dealer_at }
+
+-- those that gates go by are a record's: the dealer's tape takes no part
+pub record GatesAt (at : Positions) (m : Machine) : Type 0 where
+  pub masks : at.masks ≡ m.masks_at
+  pub channels : at.channels ≡ m.channels_at
 
 -- and all that checks 8, 9 and 11 read of one
 abbrev pub public_at : Positions → Public

@@ -17,6 +17,18 @@ impl Ring {
 
     pub const WIDTH_61: u64 = 61;
 
+    pub const MODULUS_13: u64 = (1 << Ring::WIDTH_13) - 1;
+
+    pub const MODULUS_31: u64 = (1 << Ring::WIDTH_31) - 1;
+
+    pub const MODULUS_61: u64 = (1 << Ring::WIDTH_61) - 1;
+
+    pub const QUARTER_13: u64 = 1 << (Ring::WIDTH_13 - 2);
+
+    pub const QUARTER_31: u64 = 1 << (Ring::WIDTH_31 - 2);
+
+    pub const QUARTER_61: u64 = 1 << (Ring::WIDTH_61 - 2);
+
     // u of document 000, the logarithm of 3 to base 2, rounded up: the quotient of three sub-shares' total by p fits u bits.
     pub const U: u64 = 2;
 
@@ -50,16 +62,21 @@ impl Ring {
         ensures { result ≡ modulus_of self }
     {
         match self {
-            Ring::R13 => (1 << Ring::WIDTH_13) - 1,
-            Ring::R31 => (1 << Ring::WIDTH_31) - 1,
-            Ring::R61 => (1 << Ring::WIDTH_61) - 1,
+            Ring::R13 => Ring::MODULUS_13,
+            Ring::R31 => Ring::MODULUS_31,
+            Ring::R61 => Ring::MODULUS_61,
         }
     }
 
     // 4^(-1) modulo p, 2^(e-2).
+    #[tactic(auto, unfolding(crate::specs::Rings::quarter))]
     pub fn quarter(self) -> u64
         ensures { result ≡ quarter_of self }
     {
-        1 << (self.width() - 2)
+        match self {
+            Ring::R13 => Ring::QUARTER_13,
+            Ring::R31 => Ring::QUARTER_31,
+            Ring::R61 => Ring::QUARTER_61,
+        }
     }
 }

@@ -4,6 +4,7 @@ pub mod ChunkLaw
 pub mod CourseLaw
 pub mod EndLaw
 pub mod FeedLaw
+pub mod LentLaw
 pub mod OutputLaw
 pub mod RecordLaw
 pub mod RelinedLaw

@@ -2,12 +2,14 @@
 #![tactic(auto)]
 
 mod jobs;
+mod lent;
 mod records;
 mod replies;
 mod states;
 mod tapes;
 
-pub use jobs::{Job, LAST_LINE, MOST_PRINTED};
+pub use jobs::Job;
+pub use lent::{LAST_LINE, LentJob, MOST_PRINTED};
 pub use records::SoundRecord;
 pub use replies::Reply;
 pub use states::Kept;

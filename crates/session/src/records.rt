@@ -51,9 +51,10 @@ impl SoundRecord {
         SoundRecord { words }
     }
 
-    // Its words.
+    // Its words, of which `of` makes it again.
     pub fn words(&self) -> &[u64]
-        ensures { Says result.now self.now }
+        ensures says { Says result.now self.now }
+        ensures fits { RecordFits result.now }
     {
         &self.words
     }

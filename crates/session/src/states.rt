@@ -1,12 +1,13 @@
-// What the lines of a job leave, and what each of them does.
+// What the lines of a job leave, in memory of its own.
 ghost use Rattle.std.specs.Prelude.{◌≡◌};
 ghost use Rattle.session.specs.Kept.{state_of};
 ghost use Rattle.session.specs.Outputs.{started, taken, turned};
 
+use crate::lent::LentJob;
 use crate::records::SoundRecord;
-use crate::replies::{DECLINED, Reply};
+use crate::replies::Reply;
 use crate::tapes::TapeLines;
-use line::Command;
+use line::{Command, Reading};
 
 // 01: "wires of 1,024 words".
 const WIRE: usize = 1024;
@@ -35,18 +36,19 @@ impl Kept {
         }
     }
 
-    // What a line does, and what it is answered. One `match`: each command takes other fields and another part of what is kept.
+    // What a line does, and what it is answered.
     pub fn take_command(&mut self, command: Command) -> Option<Reply>
         ensures { turned (state_of self.new) result ≡ taken (state_of self.old) command }
     {
-        match command {
-            Command::Masks { t0, t1, t2 } => self.tapes.add_masks(t0, t1, t2),
-            Command::Dealer { item } => self.tapes.add_item(item),
-            Command::Order(o) => Some(
-                self.record
-                    .give_order(o, &self.tapes, &mut self.c0, &mut self.c1, &mut self.c2),
-            ),
-            Command::Unreadable => Some(DECLINED),
-        }
+        let lent = &mut LentJob {
+            record: &mut self.record,
+            tapes: &mut self.tapes,
+            c0: &mut self.c0,
+            c1: &mut self.c1,
+            c2: &mut self.c2,
+            lines: 0,
+            reading: Reading::start(),
+        };
+        lent.take_command(command)
     }
 }

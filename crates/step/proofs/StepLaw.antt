@@ -22,7 +22,7 @@ use Rattle.order.specs.declared.tasks.Prepared.{Prepared}
 use Rattle.exchange.specs.Exchanges.{Dealing}
 use Rattle.layout.specs.Layout.{Says}
 use Rattle.layout.proofs.SaysLaw.{positions-said}
-use Rattle.order.specs.Sources.{first_source, positions_in, second_source, sources_in}
+use Rattle.order.specs.Sources.{GatesAt, first_source, positions_in, second_source, sources_in}
 use Rattle.step.specs.Found.{found_in}
 use Rattle.step.specs.Words.{Reports}
 use Rattle.step.specs.declared.found.Found.{Found}
@@ -31,8 +31,8 @@ module _ (m : Machine) (o : Order) {f : Found} (is : f ≡ found_in m o) where
   pub sources_found : f.sources ≡ sources_in m o
   sources_found = ap (λ (f : Found). f.sources) is
 
-  pub positions-at : f.at ≡ positions_in m
-  positions-at = ap (λ (f : Found). f.at) is
+  pub gates-at : GatesAt f.at m
+  gates-at = record { masks = ap (λ (f : Found). f.at.masks) is; channels = ap (λ (f : Found). f.at.channels) is }
 
   pub dealing : Dealing m f.sources.sound f.at.dealer
   dealing = record { sound = ap (λ (f : Found). f.sources.sound) is; place = ap (λ (f : Found). f.at.dealer) is }

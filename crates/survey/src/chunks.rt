@@ -1,5 +1,5 @@
 // What a chunk of input was answered: how many bytes of it were read, or what failed.
-ghost use Rattle.std.specs.Prelude.{◌≡◌};
+ghost use Rattle.std.specs.Prelude.{Err, IfErr, IfOk, Ok, OnErr, ◌≡◌};
 ghost use Rattle.session.specs.Kept.{standing_of};
 ghost use Rattle.survey.specs.Chunks.{goes_on};
 ghost use Rattle.survey.specs.declared.chunks.Failure.TheVariants.{Unread};
@@ -21,6 +21,15 @@ impl From<io::Error> for Failure {
     fn from(_: io::Error) -> Failure {
         Failure::Unread
     }
+}
+
+// What a read answered: how many bytes it brought, or that it failed.
+pub fn counted(read: io::Result<usize>) -> Result<usize, Failure>
+    ensures brought { IfOk read (λ n. result ≡ Ok n) }
+    ensures failed { OnErr read (result ≡ Err Unread) }
+    ensures unread { IfErr result (λ f. f ≡ Unread) }
+{
+    Ok(read?)
 }
 
 // Whether there is another chunk to read.

@@ -8,7 +8,7 @@ ghost use Rattle.session.specs.Kept.{standing_of};
 ghost use Rattle.session.specs.Standings.{begun};
 ghost use Rattle.survey.specs.Chunks.{Ran, Reached, Took};
 
-use chunks::{Failure, goes_on};
+use chunks::{Failure, counted, goes_on};
 use session::{Job, MOST_PRINTED};
 use std::io::Read;
 
@@ -31,7 +31,7 @@ impl Program {
     {
         let read = rt.stdin().read(&mut self.buf);
         streams::tell_unread(rt, b"survey: standard input", &read);
-        let n = read?;
+        let n = counted(read)?;
         let at = self.job.feed(&self.buf[..n], &mut self.out);
         if !self.write_out(rt, at) {
             return Err(Failure::Unwritten(n));

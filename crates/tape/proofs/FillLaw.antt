@@ -1,12 +1,12 @@
 -- What one raw word and one draw do to a filling, at their place in the raw words.
-use Rattle.std.specs.Prelude.{IsSome, None, Option, Some}
-use Prim.Native.Nat.{ℕ, suc, ◌+◌, ◌-◌, ◌≤◌, ◌<◌}
-use mathlib.Core.Path.{◌≡◌, refl, ap, ◌∙◌}
+use Rattle.std.specs.Prelude.{eqb, IsSome, None, Option, Some}
+use Prim.Native.Nat.{ℕ, zero, suc, ◌+◌, ◌-◌, ◌≤◌, ◌<◌}
+use mathlib.Core.Path.{◌≡◌, refl, sym, ap, ◌∙◌}
 use mathlib.Core.Bool.{true, false}
 use mathlib.Core.List.{List, [], ◌∷◌, ◌++◌, append_assoc, append-nil}
 use native.Mathlib.Numerals.{add-one}
 use native.Mathlib.Omega.{arith}
-use borrow.Author.Tests.{lt-ltb, le-ltb}
+use borrow.Author.Tests.{lt-ltb, le-ltb, ne_eqb}
 use lib.ListN.{length, drop, get_or, drop_of_length-le, set, take}
 use lib.Seq.{drop-cons, take_all, take-suc-set}
 use Rattle.tape.specs.declared.draws.Draw.{Draw}
@@ -52,7 +52,30 @@ joined-taken : (p : List ℕ) (x : ℕ) (f : Filled) → joined p (taken x f) �
 joined-taken p x (filled xs used) = rw append_assoc
 joined-taken p x short = refl
 
--- a draw that meets the end, and one that gives an item: to count it, and to write it into a run
+-- a raw word that fits, and one that does not: to count what fits, while items are left
+module _ (e limit : ℕ) (raw : List ℕ) (i : ℕ) {left x : ℕ} (more : 0 < left) (inside : i < length raw) (is : x ≡ low_bits e (get_or raw i 0)) where
+  one_left : left ≡ suc (left - 1)
+  one_left = omega arith
+
+  pub counted_here : x < limit → suffices (fill e limit left i (drop i raw)) ≡ suffices (fill e limit (left - 1) (i + 1) (drop (i + 1) raw))
+  counted_here below =
+      ap (λ (n : ℕ). suffices (fill e limit n i (drop i raw))) one_left
+      ∙ ap suffices (fits_here e limit raw i (left - 1) inside is below)
+      ∙ suffices-taken x (fill e limit (left - 1) (i + 1) (drop (i + 1) raw))
+
+  pub passed_here : limit ≤ x → suffices (fill e limit left i (drop i raw)) ≡ suffices (fill e limit left (i + 1) (drop (i + 1) raw))
+  passed_here above =
+      ap (λ (n : ℕ). suffices (fill e limit n i (drop i raw))) one_left
+      ∙ ap suffices (again_here e limit raw i (left - 1) inside is above)
+      ∙ ap (λ (n : ℕ). suffices (fill e limit n (i + 1) (drop (i + 1) raw))) (sym one_left)
+
+-- at the end of the raw words: they suffice where no item is left
+pub decided : (e limit i left : ℕ) (raw : List ℕ) → length raw ≤ i → suffices (fill e limit left i (drop i raw)) ≡ eqb left 0
+unfolding suffices fill
+decided e limit i zero raw h = refl
+decided e limit i (suc n) raw h = rw (ended_here e limit raw i n h) (sym (ne_eqb (suc n) 0 (λ is. absurd (omega arith))))
+
+-- a draw that meets the end, and one that gives an item: to write it into a run
 module _ {e limit at left : ℕ} {raw : List ℕ} {r : Option Draw} (drew : Drew e limit at raw r) (more : 0 < left) where
   goes_on_lem : fill e limit left at (drop at raw) ≡ onward r e limit (left - 1) raw
   goes_on_lem =
@@ -69,10 +92,6 @@ module _ {e limit at left : ℕ} {raw : List ℕ} {r : Option Draw} (drew : Drew
       go : (o : Option Draw) → (o ≡ None → fill e limit left at (drop at raw) ≡ short) → IsSome o
       go (Some d) f = refl
       go None f = let wrong : false ≡ true = rw (f refl) at enough in cc
-
-  pub counted : {d : Draw} → r ≡ Some d
-      → suffices (fill e limit left at (drop at raw)) ≡ suffices (fill e limit (left - 1) d.next (drop d.next raw))
-  counted is = rw (goes_on_lem, is) (suffices-taken _ (fill e limit (left - 1) _ _))
 
   pub written : {d : Draw} (run : List ℕ) (i : ℕ) → r ≡ Some d → i < length run
       → joined (take i run) (fill e limit left at (drop at raw)) ≡ joined (take (i + 1) (set run i d.item)) (fill e limit (left - 1) d.next (drop d.next raw))

@@ -1,9 +1,7 @@
 // One item at a time, from the raw words.
 ghost use Rattle.std.specs.Prelude.{◌≡◌, ◌<◌};
 ghost use Rattle.tape.specs.Draws.{Drew};
-ghost use Rattle.tape.specs.Tapes.{limit_of, low_bits, width_of};
-
-use crate::items::Items;
+ghost use Rattle.tape.specs.Tapes.{low_bits};
 
 // An item with the index of the next raw word: an index, not the words left, for the caller answers how many were used.
 #[derive(Clone, Copy)]
@@ -13,7 +11,7 @@ pub struct Draw {
 }
 
 // The low bits of w.
-fn low_bits(width: u64, w: u64) -> u64
+pub fn low_bits(width: u64, w: u64) -> u64
     requires { width < 64 }
     ensures { result ≡ low_bits width w }
 {
@@ -21,12 +19,10 @@ fn low_bits(width: u64, w: u64) -> u64
 }
 
 // Draws from the raw words at `at` and on, until an item fits; none does where they end.
-#[tactic(auto, using(crate::proofs::KindLaw::narrow))]
-pub fn draw_item(items: Items, raw: &[u64], at: usize) -> Option<Draw>
-    ensures { Drew (width_of items) (limit_of items) at raw.now result }
+pub fn draw_item(width: u64, limit: u64, raw: &[u64], at: usize) -> Option<Draw>
+    requires { width < 64 }
+    ensures { Drew width limit at raw.now result }
 {
-    let width = items.width();
-    let limit = items.limit();
     for i in at..raw.len() {
         let item = low_bits(width, raw[i]);
         if item < limit {

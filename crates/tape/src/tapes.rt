@@ -22,12 +22,15 @@ impl Refused {
     }
 }
 
-// Items for the whole run or not at all.
+// Items for the whole run or not at all. Their width and limit are found here, once, and not at each raw word.
+#[tactic(auto, using(crate::proofs::KindLaw::narrow))]
 fn prepare_items(items: Items, raw: &[u64], run: &mut [u64]) -> Result<usize, Refused>
     ensures { outcome result run.new ≡ settled run.old (fill (width_of items) (limit_of items) (length run.old) 0 raw.now) }
 {
-    if enough(items, raw, run.len()) {
-        return Ok(fill_run(items, raw, run));
+    let width = items.width();
+    let limit = items.limit();
+    if enough(width, limit, raw, run.len()) {
+        return Ok(fill_run(width, limit, raw, run));
     }
     Err(Refused::RawEnded)
 }
@@ -39,6 +42,9 @@ pub fn prepare(code: u64, raw: &[u64], run: &mut [u64]) -> Result<usize, Refused
     ensures is { outcome result run.new ≡ prepared code raw.now run.old }
     ensures lent { Stands raw }
 {
-    let items = Items::of_code(code).ok_or(Refused::NoRing)?;
-    prepare_items(items, raw, run)
+    match Items::of_code(code).ok_or(Refused::NoRing)? {
+        // A call of its own: the passes are then compiled for bits too, whose mask is known, and each raw word fits.
+        Items::Bits => prepare_items(Items::Bits, raw, run),
+        Items::Numbers(ring) => prepare_items(Items::Numbers(ring), raw, run),
+    }
 }

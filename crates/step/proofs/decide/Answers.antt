@@ -3,11 +3,10 @@ use mathlib.Core.Path.{◌≡◌, ◌∙◌, ap}
 use Rattle.machine.specs.declared.orders.Order.{Order}
 use Rattle.machine.specs.declared.registers.Machine.{Machine}
 use Rattle.order.specs.Sources.{sources_in}
-use Rattle.order.specs.declared.sources.Positions.{Positions}
 use Rattle.order.specs.declared.sources.Sources.{Sources}
 use Rattle.step.specs.Ways.{Takes}
 use Rattle.step.specs.declared.ways.Way.{Way}
-use Rattle.step.proofs.StepLaw.{dealing, positions-at, sources_found, stepped, taken}
+use Rattle.step.proofs.StepLaw.{dealing, gates-at, sources_found, stepped, taken}
 use Rattle.step.proofs.decide.Goals as goal
 
 -- the way that was told
@@ -24,11 +23,11 @@ pub returns-in-Attempt : goal.returns-in-Attempt
 returns-in-Attempt c = λ m is.
     let o = c.args.o in
     let prepares = takes o c.way_of.ensures c.in-Attempt.is m (sources_found m o is) in
-    stepped _ _ _ prepares (c.attempt.ensures m (positions-at m o is) prepares.ready)
+    stepped _ _ _ prepares (c.attempt.ensures m (gates-at m o is) prepares.ready)
 
 pub returns-in-Open : goal.returns-in-Open
 returns-in-Open c = λ m is.
     let o = c.args.o in
     let from = sources_found m o is in
     let e = takes o c.way_of.ensures c.in-Open.is m from in
-    taken _ _ e (c.open.ensures m (from ∙ ap (sources_in m) e) (ap (λ (q : Positions). q.channels) (positions-at m o is)) _)
+    taken _ _ e (c.open.ensures m (from ∙ ap (sources_in m) e) (gates-at m o is).channels _)

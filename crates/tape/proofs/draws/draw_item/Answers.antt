@@ -9,10 +9,7 @@ loop-i-preserved c =
 
 pub returns-then-item-limit : goal.returns-then-item-limit
 returns-then-item-limit c =
-    rw (← c.width-width.ensures, ← c.limit-limit.ensures)
-    (record { goes = λ n. c.loop-i.invariant n ∙ fits_here _ _ _ _ n c.loop-i-test.true c.low_bits-item.ensures c.if-item-limit.true })
+    record { goes = λ n. c.loop-i.invariant n ∙ fits_here _ _ _ _ n c.loop-i-test.true c.low_bits-item.ensures c.if-item-limit.true }
 
 pub returns : goal.returns
-returns c =
-    rw (← c.width-width.ensures, ← c.limit-limit.ensures)
-    (record { goes = λ n. c.loop-i.invariant n ∙ ended_here _ _ _ _ n c.loop-i-test.false })
+returns c = record { goes = λ n. c.loop-i.invariant n ∙ ended_here _ _ _ _ n c.loop-i-test.false }

@@ -9,7 +9,7 @@ use Rattle.tape.proofs.passes.fill_run.Goals as goal
 -- raw words that suffice give an item
 pub unwrap-draw-requires : goal.unwrap-draw-requires
 unwrap-draw-requires c =
-    let rest = sym (suffices-joined _ _) ∙ sym (ap suffices c.loop-slot.invariant) ∙ c.requires in
+    let rest = sym (suffices-joined _ _) ∙ sym (ap suffices c.loop-slot.invariant) ∙ c.requires.enough in
     drawn c.draw_item.ensures (omega arith) rest
 
 pub loop-slot-preserved : goal.loop-slot-preserved
