@@ -44,8 +44,8 @@ impl Sharing {
         Sharing { s0, s1, s2 }
     }
 
-    // Whether each sub-share is below m: one after the other, since check 1's outcome is public (docs/DECISIONS.md). By place: three
-    // tests by `map` would need a test of the three results besides.
+    // Whether each sub-share is below m. It branches on sub-shares, one after the other: of a secret one check 1 alone may ask it,
+    // whose outcome is public (docs/DECISIONS.md).
     pub fn is_below(self, m: u64) -> bool
         ensures { result ≡ shares_below m self }
     {

@@ -23,7 +23,8 @@ impl Register {
         matches!(self, Register::Bits(_, _))
     }
 
-    // The ring of a number, else R13: an order's checks match on the register, and a caller that knows it for a number need not.
+    // The ring of a number, else R13. No order asks it: their checks match on the register and have its ring from there.
+    // Each match here and below answers another field, so they are no twins.
     pub fn ring(self) -> Ring
         ensures { result ≡ ring_at (kind_of self) }
     {

@@ -17,12 +17,14 @@ impl Ring {
 
     pub const WIDTH_61: u64 = 61;
 
+    // p = 2^e - 1.
     pub const MODULUS_13: u64 = (1 << Ring::WIDTH_13) - 1;
 
     pub const MODULUS_31: u64 = (1 << Ring::WIDTH_31) - 1;
 
     pub const MODULUS_61: u64 = (1 << Ring::WIDTH_61) - 1;
 
+    // 4^(-1) modulo p, 2^(e-2).
     pub const QUARTER_13: u64 = 1 << (Ring::WIDTH_13 - 2);
 
     pub const QUARTER_31: u64 = 1 << (Ring::WIDTH_31 - 2);
@@ -56,7 +58,8 @@ impl Ring {
         }
     }
 
-    // p = 2^e - 1. A shift by `self.width()` would make the check of a record slower by an eighth.
+    // Matches over other constants, here and in `quarter`: nothing to share.
+    // A shift by `self.width()` would make the check of a record slower by an eighth.
     #[tactic(auto, unfolding(crate::specs::Rings::modulus))]
     pub fn modulus(self) -> u64
         ensures { result ≡ modulus_of self }
@@ -68,7 +71,6 @@ impl Ring {
         }
     }
 
-    // 4^(-1) modulo p, 2^(e-2).
     #[tactic(auto, unfolding(crate::specs::Rings::quarter))]
     pub fn quarter(self) -> u64
         ensures { result ≡ quarter_of self }

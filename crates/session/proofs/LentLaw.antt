@@ -1,10 +1,7 @@
 -- What is lent stays the same from line to line.
-use mathlib.Core.Path.{refl, ◌∙◌}
+use mathlib.Core.Path.{◌∙◌}
 use Rattle.session.specs.Kept.{SameLent}
 use Rattle.session.specs.declared.lent.LentJob.{LentJob}
-
-pub same_here : (v : LentJob) → SameLent v v
-same_here v = record { machine = refl; tapes = refl; c0 = refl; c1 = refl; c2 = refl; long = λ i. refl }
 
 pub same_then : {u v w : LentJob} → SameLent u v → SameLent v w → SameLent u w
 same_then f g =

@@ -37,6 +37,8 @@ impl Job {
     }
 
     // A chunk of input: what it prints stands at the start of `out`, as long as the answer. The job's parts are lent, and come back.
+    // Here, in `finish` and in `Kept::take_command` they are named one by one: a function that answers such a loan would have to say
+    // of each part that it comes back.
     pub fn feed(&mut self, buf: &[u8], out: &mut [u8]) -> usize
         requires room { MOST_PRINTED * length buf.now ≤ length out.old }
         ensures is { standing_of self.new ≡ after_bytes (standing_of self.old) buf.now }

@@ -36,7 +36,7 @@ impl Kept {
         }
     }
 
-    // What a line does, and what it is answered.
+    // What a line does, and what it is answered: for a caller that has commands and no lines.
     pub fn take_command(&mut self, command: Command) -> Option<Reply>
         ensures { turned (state_of self.new) result ≡ taken (state_of self.old) command }
     {

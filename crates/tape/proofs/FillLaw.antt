@@ -82,7 +82,7 @@ module _ {e limit at left : ℕ} {raw : List ℕ} {r : Option Draw} (drew : Drew
       let split : left ≡ suc (left - 1) = omega arith in
       ap (λ (n : ℕ). fill e limit n at (drop at raw)) split ∙ drew.goes (left - 1)
 
-  pub none_drawn : r ≡ None → fill e limit left at (drop at raw) ≡ short
+  none_drawn : r ≡ None → fill e limit left at (drop at raw) ≡ short
   none_drawn is = rw is at goes_on_lem
 
   pub drawn : suffices (fill e limit left at (drop at raw)) ≡ true → IsSome r

@@ -43,7 +43,7 @@ pub fn prepare(code: u64, raw: &[u64], run: &mut [u64]) -> Result<usize, Refused
     ensures lent { Stands raw }
 {
     match Items::of_code(code).ok_or(Refused::NoRing)? {
-        // A call of its own: the passes are then compiled for bits too, whose mask is known, and each raw word fits.
+        // Two calls of one function: in that for bits the compiler knows width and limit, and makes a loop without a test.
         Items::Bits => prepare_items(Items::Bits, raw, run),
         Items::Numbers(ring) => prepare_items(Items::Numbers(ring), raw, run),
     }
