@@ -18,6 +18,7 @@ use Rattle.order.specs.Answers.{reported}
 use Rattle.order.specs.Attempts.{Prepares, attempted}
 use Rattle.order.specs.Changes.{Changes, answer_of, applied, changed}
 use Rattle.order.specs.declared.changes.Change.{Change}
+use Rattle.order.specs.declared.sources.Positions.{Positions}
 use Rattle.order.specs.declared.tasks.Prepared.{Prepared}
 use Rattle.exchange.specs.Exchanges.{Dealing}
 use Rattle.layout.specs.Layout.{Says}
@@ -31,8 +32,11 @@ module _ (m : Machine) (o : Order) {f : Found} (is : f ≡ found_in m o) where
   pub sources_found : f.sources ≡ sources_in m o
   sources_found = ap (λ (f : Found). f.sources) is
 
+  pub positions-at : f.at ≡ positions_in m
+  positions-at = ap (λ (f : Found). f.at) is
+
   pub gates-at : GatesAt f.at m
-  gates-at = record { masks = ap (λ (f : Found). f.at.masks) is; channels = ap (λ (f : Found). f.at.channels) is }
+  gates-at = record { masks = ap (λ (at : Positions). at.masks) positions-at; channels = ap (λ (at : Positions). at.channels) positions-at }
 
   pub dealing : Dealing m f.sources.sound f.at.dealer
   dealing = record { sound = ap (λ (f : Found). f.sources.sound) is; place = ap (λ (f : Found). f.at.dealer) is }

@@ -75,14 +75,14 @@ unfolding suffices fill
 decided e limit i zero raw h = refl
 decided e limit i (suc n) raw h = rw (ended_here e limit raw i n h) (sym (ne_eqb (suc n) 0 (λ is. absurd (omega arith))))
 
--- a draw that meets the end, and one that gives an item: to write it into a run
+-- a draw that meets the end, and one that gives an item: to count it, and to write it into a run
 module _ {e limit at left : ℕ} {raw : List ℕ} {r : Option Draw} (drew : Drew e limit at raw r) (more : 0 < left) where
   goes_on_lem : fill e limit left at (drop at raw) ≡ onward r e limit (left - 1) raw
   goes_on_lem =
       let split : left ≡ suc (left - 1) = omega arith in
       ap (λ (n : ℕ). fill e limit n at (drop at raw)) split ∙ drew.goes (left - 1)
 
-  none_drawn : r ≡ None → fill e limit left at (drop at raw) ≡ short
+  pub none_drawn : r ≡ None → fill e limit left at (drop at raw) ≡ short
   none_drawn is = rw is at goes_on_lem
 
   pub drawn : suffices (fill e limit left at (drop at raw)) ≡ true → IsSome r
@@ -92,6 +92,10 @@ module _ {e limit at left : ℕ} {raw : List ℕ} {r : Option Draw} (drew : Drew
       go : (o : Option Draw) → (o ≡ None → fill e limit left at (drop at raw) ≡ short) → IsSome o
       go (Some d) f = refl
       go None f = let wrong : false ≡ true = rw (f refl) at enough in cc
+
+  pub counted : {d : Draw} → r ≡ Some d
+      → suffices (fill e limit left at (drop at raw)) ≡ suffices (fill e limit (left - 1) d.next (drop d.next raw))
+  counted is = rw (goes_on_lem, is) (suffices-taken _ (fill e limit (left - 1) _ _))
 
   pub written : {d : Draw} (run : List ℕ) (i : ℕ) → r ≡ Some d → i < length run
       → joined (take i run) (fill e limit left at (drop at raw)) ≡ joined (take (i + 1) (set run i d.item)) (fill e limit (left - 1) d.next (drop d.next raw))
