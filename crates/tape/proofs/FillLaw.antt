@@ -76,6 +76,7 @@ decided e limit i zero raw h = refl
 decided e limit i (suc n) raw h = rw (ended_here e limit raw i n h) (sym (ne_eqb (suc n) 0 (λ is. absurd (omega arith))))
 
 -- a draw that meets the end, and one that gives an item: to count it, and to write it into a run
+-- `counted` is for whoever counts by draws: `enough` counts raw words, so no proof here cites it.
 module _ {e limit at left : ℕ} {raw : List ℕ} {r : Option Draw} (drew : Drew e limit at raw r) (more : 0 < left) where
   goes_on_lem : fill e limit left at (drop at raw) ≡ onward r e limit (left - 1) raw
   goes_on_lem =
